@@ -1,6 +1,19 @@
 //! Circuits as the planner sees them: one-qubit gates, pairs, fences and reads, in source order.
+//!
+//! `CX c,t` is a Hadamard gate on the target, a CZ of the two, and a Hadamard gate on the target again; so a
+//! native list has one-qubit gates and CZ pairs alone. Angles are texts, and nothing evaluates them.
 #![tactic(auto)]
 
+pub mod angle;
+pub mod circuit;
+pub mod laws;
 pub mod list;
+pub mod memory;
 
+pub use angle::{Angle, Angles};
+pub use circuit::{Circuit, CircuitFault, Op};
 pub use list::{Bytes, List};
+pub use memory::Memory;
+
+#[cfg(test)]
+mod tests;

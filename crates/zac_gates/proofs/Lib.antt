@@ -1,0 +1,4 @@
+mod Lists
+pub mod Realising
+pub mod Rearranging
+mod Validity
