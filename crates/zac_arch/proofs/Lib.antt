@@ -1,0 +1,10 @@
+mod Lists
+mod Grid
+mod Zones
+pub mod Ranges
+mod Sites
+mod Walks
+mod Finding
+mod Roots
+pub mod Geometry
+pub mod Spacing

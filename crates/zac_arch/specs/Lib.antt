@@ -1,0 +1,4 @@
+pub mod Distances
+pub mod Architecture
+pub mod Rules
+pub mod Tiny

@@ -1,0 +1,33 @@
+//! What holds of the traps of every card.
+
+ghost use Rattle.std.specs.Prelude.{◌≡◌, ℕ, ◌+◌, ◌*◌, ◌<◌, ◌≤◌, ◌≢◌};
+ghost use Rattle.zac_arch.specs.declared.place.Point.{Point};
+ghost use Rattle.zac_arch.specs.Architecture.{trap_count, storage_count, site_count, StandsAt, left_trap, right_trap, IsTrapOf, IsLit};
+ghost use Rattle.zac_arch.specs.Distances.{IsWithin, IsFarther};
+
+use crate::card::Card;
+
+/// The laws of a card's traps: how many there are, that no two stand at one point nor within reach of each
+/// other, that a beam parked beyond a trap is on the field, that a pulse lights just the traps of sites, and
+/// that two of these are within the blockade radius exactly where they are of one site.
+pub fn laws_of_traps(card: &Card)
+    ensures counts { trap_count card.now ≡ storage_count card.now + 2 * site_count card.now }
+    ensures one_trap { (t u : ℕ) → (p : Point)
+        → StandsAt card.now t p → StandsAt card.now u p → t ≡ u }
+    ensures apart { (t u : ℕ) → (p q : Point) → t ≢ u
+        → StandsAt card.now t p → StandsAt card.now u q → IsFarther card.now.figures.reach p q }
+    ensures on_the_field { (t : ℕ) → (p : Point) → StandsAt card.now t p
+        → (p.x + card.now.figures.park ≤ 1000000) × (p.y + card.now.figures.park ≤ 1000000) }
+    ensures storage_dark { (t : ℕ) → (p : Point)
+        → t < storage_count card.now → StandsAt card.now t p → ¬ IsLit card.now p }
+    ensures sites_lit { (t : ℕ) → (p : Point)
+        → storage_count card.now ≤ t → StandsAt card.now t p → IsLit card.now p }
+    ensures site_within { (s : ℕ) → (p q : Point) → s < site_count card.now
+        → StandsAt card.now (left_trap card.now s) p → StandsAt card.now (right_trap card.now s) q
+        → IsWithin card.now.figures.radius p q }
+    ensures one_site { (s r t u : ℕ) → (p q : Point)
+        → IsTrapOf card.now s t → IsTrapOf card.now r u → StandsAt card.now t p → StandsAt card.now u q
+        → IsWithin card.now.figures.radius p q → s ≡ r }
+{
+    let _rules = card.figures();
+}
