@@ -1,0 +1,3 @@
+pub mod Filling
+pub mod Growth
+pub mod Told

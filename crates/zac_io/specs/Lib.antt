@@ -1,0 +1,6 @@
+pub mod Outside
+pub mod Calls
+pub mod Files
+pub mod MemShelf
+pub mod MemSink
+pub mod Adapters
