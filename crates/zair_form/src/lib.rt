@@ -1,0 +1,12 @@
+//! The forms of ZAIR, the intermediate representation of ZAC (Lin, Tan and Cong, HPCA 2025): steps of the
+//! machine, instructions and programs, with the times of steps.
+#![tactic(auto)]
+
+pub mod program;
+pub mod step;
+
+pub use program::{Act, Instr, Program};
+pub use step::{Beam, Caught, Dropped, OneGate, PairOf, ReadOf, Step};
+
+#[cfg(test)]
+mod tests;
