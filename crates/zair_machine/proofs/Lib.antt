@@ -1,0 +1,9 @@
+pub mod Closed
+pub mod Entangling
+pub mod Lone
+pub mod Refused
+pub mod Wrong
+pub mod Recursion
+pub mod Parking
+pub mod MoveTimes
+pub mod Beside
