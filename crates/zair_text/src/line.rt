@@ -1,0 +1,51 @@
+//! Lines of a text.
+
+ghost use Rattle.std.specs.Prelude.{◌≡◌, ◌≤◌, ◌++◌, ◌∷◌, [], codes, false, IfOk, IsTrue};
+ghost use Rattle.serde_json.specs.Data.{depth};
+ghost use Rattle.serde_json.specs.Read.{max_depth};
+ghost use Rattle.serde_json.specs.View.{view};
+ghost use Rattle.serde_json.specs.Written.{has_float};
+ghost use Rattle.zair_form.specs.Steps.{has_own_steps};
+ghost use Rattle.zair_text.specs.Values.{instr_value, header_value};
+ghost use Rattle.zair_text.specs.Lines.{line, instr_line, ReadsBack};
+
+use crate::value::{ToJson, header_json};
+use serde_json::Value;
+use std::alloc::Global;
+use zac_gates::{Bytes, List, Memory};
+use zair_form::Instr;
+
+// The line of a value.
+fn line_from(alloc: Global, value: &Value) -> Result<Bytes, Memory>
+    requires no_float { has_float (view value.now) ≡ false }
+    requires shallow { depth (view value.now) ≤ max_depth }
+    ensures line { IfOk result (λ bytes. bytes ≡ line (view value.now)) }
+    ensures reads_back { IfOk result (ReadsBack (view value.now)) }
+{
+    let mut bytes = value.to_vec(alloc)?;
+    bytes.push(b'\n')?;
+    Ok(List::of(bytes))
+}
+
+/// The line of an instruction: its JSON object, written compactly with the keys in byte order, and a line feed.
+///
+/// What stands before the line feed, which is the only one, reads as the instruction's value.
+pub fn line_of(alloc: Global, instr: &Instr) -> Result<Bytes, Memory>
+    requires { IsTrue (has_own_steps instr.now.act) }
+    ensures line { IfOk result (λ bytes. bytes ≡ instr_line instr.now) }
+    ensures reads_back { IfOk result (ReadsBack (instr_value instr.now)) }
+{
+    let value = instr.to_json(alloc)?;
+    line_from(alloc, &value)
+}
+
+/// The first line of a text: `{"type":"zair","version":1}` and a line feed.
+pub fn header_line(alloc: Global) -> Result<Bytes, Memory>
+    ensures line { IfOk result (λ bytes. bytes ≡ line header_value) }
+    ensures bytes { IfOk result
+        (λ bytes. bytes ≡ codes "{\"type\":\"zair\",\"version\":1}" ++ 10 ∷ []) }
+    ensures reads_back { IfOk result (ReadsBack header_value) }
+{
+    let value = header_json(alloc)?;
+    line_from(alloc, &value)
+}
