@@ -1,0 +1,134 @@
+-- A timeline goes on: by one instruction, and by some after others.
+use Rattle.std.proofs.Common.{◌≡◌, ℕ, ◌+◌, ◌*◌, ◌<◌, ◌≤◌, List, [], ◌∷◌, ◌++◌, length, refl, sym, ap, ◌∙◌, subst, arith, map, min, max, append_assoc, append-nil, Option, Some}
+use Rattle.std.proofs.lemmas.List.{map-append}
+use Rattle.std.proofs.lemmas.Option.{get_or_from_slice_get}
+use Rattle.zac_arch.specs.Architecture.{Architecture, StandsAt, trap_points}
+use Rattle.zac_arch.specs.Distances.{difference, IsMoveTime}
+use Rattle.zac_arch.specs.declared.card.Figures.{Figures}
+use Rattle.zac_arch.specs.declared.place.Point.{Point}
+use Rattle.zac_arch.specs.declared.place.TrapId.{TrapId}
+use Rattle.zac_arch.specs.Rules.{KeepsRules}
+use Rattle.zac_arch.proofs.Geometry.{on_the_field}
+use Rattle.zair_form.specs.declared.step.OneGate.{OneGate}
+use Rattle.zair_form.specs.declared.step.ReadOf.{ReadOf}
+use Rattle.zair_form.specs.declared.step.Step.{Step}
+use Rattle.zair_form.specs.declared.step.Step.TheVariants.{One}
+use Rattle.zair_form.specs.declared.program.Act.{Act}
+use Rattle.zair_form.specs.declared.program.Act.TheVariants.{Gates, Job, Readout}
+use Rattle.zair_form.specs.declared.program.Instr.{Instr}
+use Rattle.zair_form.specs.Steps.{steps_of}
+use Rattle.zair_form.specs.Times.{LastTogether, greatest_change}
+use Rattle.zac_plan.specs.declared.timeline.Timeline.{Timeline}
+use Rattle.zac_plan.specs.Chain.{IsChain, end_of}
+use Rattle.zac_plan.specs.Flight.{flight_steps, IsFlightTime}
+use Rattle.zac_plan.specs.Growth.{GoesOn}
+use Rattle.zac_plan.specs.Plan.{carrier, carry, point_at, gates_of, readout_of, home, left, right, arrivals, returns}
+use Rattle.zac_plan.proofs.Chaining.{IsChain-append, end_of-append}
+use Rattle.zac_plan.proofs.ChainPlan.{carrier_change}
+
+pub goes_nowhere : (f : Figures) (t : Timeline) → GoesOn f t t []
+goes_nowhere f t = record { added = []; instrs = sym (append-nil t.instrs.items); does = refl; chain = tt; now = refl }
+
+pub goes_on_append : (f : Figures) (x y z : Timeline) (these those : List Act) → GoesOn f x y these → GoesOn f y z those → GoesOn f x z (these ++ those)
+goes_on_append f x y z these those h k = record {
+  added = h.added ++ k.added;
+  instrs = k.instrs ∙ ap (λ (l : List Instr). l ++ k.added) h.instrs ∙ append_assoc x.instrs.items h.added k.added;
+  does = map-append (λ (i : Instr). i.act) h.added k.added ∙ ap (λ (l : List Act). l ++ map (λ (i : Instr). i.act) k.added) h.does ∙ ap (λ (l : List Act). these ++ l) k.does;
+  chain = IsChain-append f x.now h.added k.added h.chain (subst (λ (n : ℕ). IsChain f n k.added) h.now k.chain);
+  now = k.now ∙ ap (λ n. end_of n k.added) h.now ∙ sym (end_of-append x.now h.added k.added);
+}
+
+-- by one instruction that takes as long as its steps
+pub goes_on_by : (f : Figures) (old new : Timeline) (act : Act) (duration : ℕ) → LastTogether f [] (steps_of act) duration →
+    new.instrs.items ≡ old.instrs.items ++ (record { begin = old.now; end = old.now + duration; act = act }) ∷ [] → new.now ≡ old.now + duration → GoesOn f old new (act ∷ [])
+goes_on_by f old new act duration lasts instrs now = record {
+  added = (record { begin = old.now; end = old.now + duration; act = act }) ∷ [];
+  instrs = instrs;
+  does = refl;
+  chain = (refl, (duration, refl, lasts), tt);
+  now = now;
+}
+
+-- gates take their time one after another
+pub gates_last : (f : Figures) (earlier : List Step) (ones : List OneGate) → LastTogether f earlier (map (λ gate. One gate) ones) (length ones * f.one)
+gates_last f earlier [] = omega arith
+gates_last f earlier (g ∷ gs) =
+    (f.one, length gs * f.one, omega arith, refl, gates_last f (earlier ++ One g ∷ []) gs)
+
+-- the steps of a flight take as long as the flight
+pub flight_lasts : (f : Figures) (q : ℕ) (to : TrapId) (p r : Point) (time : ℕ) → p.x ≤ 1000000 → p.y ≤ 1000000 → r.x ≤ 1000000 → r.y ≤ 1000000 →
+    IsFlightTime f p r time → LastTogether f [] (flight_steps q to p r) time
+flight_lasts f q to p r time px py rx ry h =
+    let x : greatest_change (carrier p.x) (carrier r.x) ≡ difference p.x r.x = carrier_change p.x r.x ∙ omega arith in
+    let y : greatest_change (carrier p.y) (carrier r.y) ≡ difference p.y r.y = carrier_change p.y r.y ∙ omega arith in
+    let moves : IsMoveTime f.accel (greatest_change (carrier p.x) (carrier r.x)) (greatest_change (carrier p.y) (carrier r.y)) h.moving =
+    subst (λ (m : ℕ). IsMoveTime f.accel m (greatest_change (carrier p.y) (carrier r.y)) h.moving) (sym x)
+    (subst (λ (m : ℕ). IsMoveTime f.accel (difference p.x r.x) m h.moving) (sym y) h.move) in
+    let sum = h.sum in (
+      f.activate,
+      h.moving + f.deactivate,
+      omega arith,
+      refl,
+      (
+        h.moving,
+        f.deactivate,
+        refl,
+        moves,
+        (f.deactivate, 0, omega arith, refl, refl),
+      ),
+    )
+
+-- where a trap stands
+pub point_is : (a : Architecture) (t : TrapId) (p : Point) → StandsAt a t.0 p → p ≡ point_at a t
+point_is a t p h = sym (get_or_from_slice_get (trap_points a) t.0 p (record { x = 0; y = 0 }) h)
+
+-- the steps of a carry are those of the flight between its traps
+pub carry_is : (a : Architecture) (q : ℕ) (from to : TrapId) (p r : Point) → StandsAt a from.0 p → StandsAt a to.0 r → Job 0 (flight_steps q to p r) ≡ carry a q from to
+carry_is a q from to p r source target =
+    ap (λ (x : Point). Job 0 (flight_steps q to x r)) (point_is a from p source)
+    ∙ ap (λ (x : Point). Job 0 (flight_steps q to (point_at a from) x)) (point_is a to r target)
+
+pub goes_on_same : (f : Figures) (x y : Timeline) (these those : List Act) → these ≡ those → GoesOn f x y these → GoesOn f x y those
+goes_on_same f x y these those e h = subst (λ (l : List Act). GoesOn f x y l) e h
+
+-- gates that are there make one instruction
+pub gates_are : (ones : List OneGate) → 0 < length ones → Gates ones ∷ [] ≡ gates_of ones
+gates_are [] h = absurd (omega arith)
+gates_are (g ∷ gs) h = refl
+
+pub reads_are : (reads : List ReadOf) → 0 < length reads → Readout reads ∷ [] ≡ readout_of reads
+reads_are [] h = absurd (omega arith)
+reads_are (r ∷ rs) h = refl
+
+-- the coordinates of a trap
+pub on_field : (a : Architecture) → KeepsRules a → (t : ℕ) (p : Point) → StandsAt a t p → (p.x ≤ 1000000) × (p.y ≤ 1000000)
+on_field a rules t p h =
+    let on = on_the_field a rules t p h in
+    (omega arith, omega arith)
+
+module _ (a : Architecture) (x y z : Timeline) (p q lo hi : ℕ) (l r : TrapId)
+    (lo_is : lo ≡ min p q) (hi_is : hi ≡ max p q) (l_is : l ≡ left a) (r_is : r ≡ right a) where
+  pub arrivals_go_on : GoesOn a.figures x y (carry a lo (home lo) l ∷ []) → GoesOn a.figures y z (carry a hi (home hi) r ∷ []) → GoesOn a.figures x z (arrivals a p q)
+  arrivals_go_on h k =
+      let first : carry a lo (home lo) l ≡ carry a (min p q) (home (min p q)) (left a) =
+      ap (λ n. carry a n (home n) l) lo_is ∙ ap (λ (t : TrapId). carry a (min p q) (home (min p q)) t) l_is in
+      let second : carry a hi (home hi) r ≡ carry a (max p q) (home (max p q)) (right a) =
+      ap (λ n. carry a n (home n) r) hi_is ∙ ap (λ (t : TrapId). carry a (max p q) (home (max p q)) t) r_is in
+      goes_on_append a.figures x y z (carry a (min p q) (home (min p q)) (left a) ∷ []) (carry a (max p q) (home (max p q)) (right a) ∷ [])
+      (subst (λ (act : Act). GoesOn a.figures x y (act ∷ [])) first h) (subst (λ (act : Act). GoesOn a.figures y z (act ∷ [])) second k)
+
+  pub returns_go_on : (at_site : Option (ℕ × ℕ)) → at_site ≡ Some (p, q) → GoesOn a.figures x y (carry a lo l (home lo) ∷ []) → GoesOn a.figures y z (carry a hi r (home hi) ∷ []) → GoesOn a.figures x z (returns a at_site)
+  returns_go_on at_site is h k =
+      let first : carry a lo l (home lo) ≡ carry a (min p q) (left a) (home (min p q)) =
+      ap (λ n. carry a n l (home n)) lo_is ∙ ap (λ (t : TrapId). carry a (min p q) t (home (min p q))) l_is in
+      let second : carry a hi r (home hi) ≡ carry a (max p q) (right a) (home (max p q)) =
+      ap (λ n. carry a n r (home n)) hi_is ∙ ap (λ (t : TrapId). carry a (max p q) t (home (max p q))) r_is in
+      subst (λ (o : Option (ℕ × ℕ)). GoesOn a.figures x z (returns a o)) (sym is)
+      (goes_on_append a.figures x y z (carry a (min p q) (left a) (home (min p q)) ∷ []) (carry a (max p q) (right a) (home (max p q)) ∷ [])
+      (subst (λ (act : Act). GoesOn a.figures x y (act ∷ [])) first h) (subst (λ (act : Act). GoesOn a.figures y z (act ∷ [])) second k))
+
+-- four parts one after another
+pub four_go_on : (f : Figures) (v w x y z : Timeline) (as1 as2 as3 as4 : List Act) → GoesOn f v w as1 → GoesOn f w x as2 → GoesOn f x y as3 → GoesOn f y z as4 →
+    GoesOn f v z (as1 ++ (as2 ++ (as3 ++ as4)))
+four_go_on f v w x y z as1 as2 as3 as4 h i j k =
+    goes_on_append f v w z as1 (as2 ++ (as3 ++ as4)) h (goes_on_append f w x z as2 (as3 ++ as4) i (goes_on_append f x y z as3 as4 j k))
