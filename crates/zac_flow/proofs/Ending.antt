@@ -1,0 +1,161 @@
+-- How a run ends: its line, and the status that a file deserves.
+use Rattle.std.proofs.Common.{◌≡◌, ◌≢◌, ℕ, ◌<◌, ◌≤◌, ◌⊎◌, inl, inr, List, Option, Some, Err, refl, sym, ap, ◌∙◌, subst, arith, length}
+use Rattle.zac_arch.specs.Architecture.{storage_count}
+use Rattle.zac_arch.specs.Tiny.{tiny_architecture}
+use Rattle.zac_io.specs.Outside.{NamedFiles, Holds, IsLonger, Rose, Appends, AppendsPrefix}
+use Rattle.zac_flow.specs.Answers.{Explains, Cause, IsSource, IsLineOf, Tells, Deserves, IsExact, RisesAt, source_limit}
+use Rattle.zac_flow.specs.Ends.{status_of, refusal_line}
+use Rattle.zac_flow.specs.Told.{HasShelfCause, HasSinkCause}
+use Rattle.zac_flow.specs.FirstForm.{HasFirstForm}
+use Rattle.zac_flow.specs.declared.status.Fault.{Fault}
+use Rattle.zac_flow.specs.declared.status.Fault.TheVariants as fault
+use Rattle.zac_flow.specs.declared.status.Status.{Status}
+use Rattle.zac_flow.specs.declared.status.Status.TheVariants.{Done, SourceRefused, Usage, ReadFault, WriteFault, NoMemory, TooManyQubits, TooLong}
+use Rattle.zac_flow.proofs.FirstForms.{one_first_form}
+
+-- the line of a refusal is that of its status
+line_of : (files : Option NamedFiles) (name : List ℕ) (old new : Option (List ℕ)) (f : Fault) → Explains files name old new f → IsLineOf files (Some name) (status_of f) (refusal_line f)
+line_of files name old new fault.Usage h = absurd h
+line_of files name old new fault.Read h = refl
+line_of files name old new fault.Long h = refl
+line_of files name old new fault.Form h = refl
+line_of files name old new (fault.Qubits n s) h = (n, h.0, ap (λ m. refusal_line (fault.Qubits n m)) h.1)
+line_of files name old new fault.Write h = refl
+line_of files name old new fault.Memory h = refl
+
+pub tells_refusal : (files : Option NamedFiles) (name : List ℕ) (old new : Option (List ℕ)) (f : Fault) → Explains files name old new f →
+    (err err' : Option (List ℕ)) (before now : ℕ) → AppendsPrefix err err' (refusal_line f) → (¬ Rose before now → Appends err err' (refusal_line f)) →
+    Tells files (Some name) (status_of f) err err' before now
+tells_refusal files name old new f h err err' before now told whole =
+    record { line = refusal_line f; is = line_of files name old new f h; told = told; whole = whole }
+
+-- what a shelf that tells its files holds under a name
+held_bytes : (file : NamedFiles) (text bytes found : List ℕ) → file text ≡ Some bytes → Holds (Some file) text found → found ≡ bytes
+held_bytes file text bytes found is held = let same : Some found ≡ Some bytes = sym held ∙ is in cc
+
+-- the file is longer than the limit
+longer : (file : NamedFiles) (text bytes : List ℕ) → file text ≡ Some bytes → IsLonger (Some file) text source_limit → source_limit < length bytes
+longer file text bytes is h = rw is at h
+
+deserves_long : (bytes : List ℕ) (deserved : Status) → source_limit < length bytes → Deserves bytes deserved → TooLong ≡ deserved
+deserves_long bytes TooLong long d = refl
+deserves_long bytes SourceRefused long d = absurd (omega (arith, d.0))
+deserves_long bytes TooManyQubits long d = absurd (omega (arith, d.0))
+deserves_long bytes Done long d = absurd (omega (arith, d.0))
+deserves_long bytes Usage long d = absurd d
+deserves_long bytes ReadFault long d = absurd d
+deserves_long bytes WriteFault long d = absurd d
+deserves_long bytes NoMemory long d = absurd d
+
+deserves_refusal : (bytes : List ℕ) (deserved : Status) → length bytes ≤ source_limit → ((n : ℕ) (ps : List (ℕ × ℕ)) → ¬ HasFirstForm bytes n ps) → Deserves bytes deserved → SourceRefused ≡ deserved
+deserves_refusal bytes TooLong short none d = absurd (omega (arith, d))
+deserves_refusal bytes SourceRefused short none d = refl
+deserves_refusal bytes TooManyQubits short none d = absurd (none d.1.0 d.1.1 d.1.2)
+deserves_refusal bytes Done short none d = absurd (none d.1.0 d.1.1 d.1.2)
+deserves_refusal bytes Usage short none d = absurd d
+deserves_refusal bytes ReadFault short none d = absurd d
+deserves_refusal bytes WriteFault short none d = absurd d
+deserves_refusal bytes NoMemory short none d = absurd d
+
+deserves_too_many : (bytes : List ℕ) (deserved : Status) (n : ℕ) (ps : List (ℕ × ℕ)) → length bytes ≤ source_limit → HasFirstForm bytes n ps → storage_count tiny_architecture < n → Deserves bytes deserved → TooManyQubits ≡ deserved
+deserves_too_many bytes TooLong n ps short form many d = absurd (omega (arith, d))
+deserves_too_many bytes SourceRefused n ps short form many d = absurd (d.1 n ps form)
+deserves_too_many bytes TooManyQubits n ps short form many d = refl
+deserves_too_many bytes Done n ps short form many d = absurd (omega (arith, (one_first_form bytes n d.1.0 ps d.1.1 form d.1.2).0, d.1.3, many))
+deserves_too_many bytes Usage n ps short form many d = absurd d
+deserves_too_many bytes ReadFault n ps short form many d = absurd d
+deserves_too_many bytes WriteFault n ps short form many d = absurd d
+deserves_too_many bytes NoMemory n ps short form many d = absurd d
+
+deserves_done : (bytes : List ℕ) (deserved : Status) (n : ℕ) (ps : List (ℕ × ℕ)) → length bytes ≤ source_limit → HasFirstForm bytes n ps → n ≤ storage_count tiny_architecture → Deserves bytes deserved → Done ≡ deserved
+deserves_done bytes TooLong n ps short form fits d = absurd (omega (arith, d))
+deserves_done bytes SourceRefused n ps short form fits d = absurd (d.1 n ps form)
+deserves_done bytes TooManyQubits n ps short form fits d = absurd (omega (arith, (one_first_form bytes n d.1.0 ps d.1.1 form d.1.2).0, d.1.3, fits))
+deserves_done bytes Done n ps short form fits d = refl
+deserves_done bytes Usage n ps short form fits d = absurd d
+deserves_done bytes ReadFault n ps short form fits d = absurd d
+deserves_done bytes WriteFault n ps short form fits d = absurd d
+deserves_done bytes NoMemory n ps short form fits d = absurd d
+
+-- the bytes of a source are those of the file
+source_is : (file : NamedFiles) (text bytes : List ℕ) (n : ℕ) (ps : List (ℕ × ℕ)) → file text ≡ Some bytes → IsSource (Some file) text n ps → (length bytes ≤ source_limit) × HasFirstForm bytes n ps
+source_is file text bytes n ps is h =
+    let same = held_bytes file text bytes h.bytes is h.held in
+    (subst (λ (l : List ℕ). length l ≤ source_limit) same h.short, subst (λ (l : List ℕ). HasFirstForm l n ps) same h.form)
+
+-- the status of a run with such a cause is the one that the file deserves
+exact_of : (file : NamedFiles) (text bytes : List ℕ) (old new : Option (List ℕ)) (status deserved : Status) → file text ≡ Some bytes →
+    Cause (Some file) (Some text) old new status → status ≢ ReadFault → status ≢ WriteFault → Deserves bytes deserved → (status ≡ deserved) ⊎ (status ≡ NoMemory)
+exact_of file text bytes old new Usage deserved is h read write d = absurd h
+exact_of file text bytes old new ReadFault deserved is h read write d = absurd (read refl)
+exact_of file text bytes old new WriteFault deserved is h read write d = absurd (write refl)
+exact_of file text bytes old new NoMemory deserved is h read write d = inr refl
+exact_of file text bytes old new TooLong deserved is h read write d = inl (deserves_long bytes deserved (longer file text bytes is h.0) d)
+exact_of file text bytes old new SourceRefused deserved is h read write d =
+    let same = held_bytes file text bytes h.0.bytes is h.0.held in
+    inl (deserves_refusal bytes deserved (subst (λ (l : List ℕ). length l ≤ source_limit) same h.0.short)
+    (λ n ps form. h.0.none n ps (subst (λ (l : List ℕ). HasFirstForm l n ps) (sym same) form)) d)
+exact_of file text bytes old new TooManyQubits deserved is h read write d =
+    let many = h.0.1 in
+    let source = source_is file text bytes h.0.0 many.pairs is many.source in
+    inl (deserves_too_many bytes deserved h.0.0 many.pairs source.0 source.1 many.too_many d)
+exact_of file text bytes old new Done deserved is h read write d =
+    let source = source_is file text bytes h.compiles.qubits h.compiles.pairs is h.compiles.source in
+    inl (deserves_done bytes deserved h.compiles.qubits h.compiles.pairs source.0 source.1 h.compiles.fits d)
+
+pub is_exact : (files : Option NamedFiles) (name : Option (List ℕ)) (old new : Option (List ℕ)) (status : Status) →
+    Cause files name old new status → status ≢ ReadFault → status ≢ WriteFault → IsExact files name status
+is_exact files name old new status h read write file text bytes deserved files_are name_is is d =
+    let P : Option NamedFiles → Option (List ℕ) → Type 0 = λ fs n. Cause fs n old new status in
+    exact_of file text bytes old new status deserved is (subst (λ n. P (Some file) n) name_is (subst (λ fs. P fs name) files_are h)) read write d
+
+-- a status whose count hasn't risen isn't the status
+pub not_at : (which status : Status) (before now : ℕ) → RisesAt which status before now → ¬ Rose before now → status ≢ which
+not_at which status before now h calm e = calm (h.rises e)
+
+-- a refusal's reason is the cause of its status
+pub cause_of : (files : Option NamedFiles) (name : List ℕ) (old new : Option (List ℕ)) (f : Fault) → Explains files name old new f → Cause files (Some name) old new (status_of f)
+cause_of files name old new fault.Usage h = h
+cause_of files name old new fault.Read h = h
+cause_of files name old new fault.Long h = h
+cause_of files name old new fault.Form h = h
+cause_of files name old new (fault.Qubits n s) h = ((n, h.0), h.2)
+cause_of files name old new fault.Write h = h
+cause_of files name old new fault.Memory h = h
+
+pub rises_at_read : (f : Fault) (before now : ℕ) → HasShelfCause (Err f) before now → status_of f ≡ ReadFault → Rose before now
+rises_at_read fault.Usage before now h e = cc
+rises_at_read fault.Read before now h e = h
+rises_at_read fault.Long before now h e = cc
+rises_at_read fault.Form before now h e = cc
+rises_at_read (fault.Qubits n s) before now h e = cc
+rises_at_read fault.Write before now h e = cc
+rises_at_read fault.Memory before now h e = cc
+
+pub rises_at_write : (f : Fault) (before now : ℕ) → HasSinkCause (Err f) before now → status_of f ≡ WriteFault → Rose before now
+rises_at_write fault.Usage before now h e = cc
+rises_at_write fault.Read before now h e = cc
+rises_at_write fault.Long before now h e = cc
+rises_at_write fault.Form before now h e = cc
+rises_at_write (fault.Qubits n s) before now h e = cc
+rises_at_write fault.Write before now h e = h
+rises_at_write fault.Memory before now h e = cc
+
+-- a run that is refused on its file
+module _ (files : Option NamedFiles) (name : Option (List ℕ)) (text : List ℕ) (old new : Option (List ℕ)) (f : Fault) (status : Status)
+    (name_is : Some text ≡ name) (status_is : status ≡ status_of f) (explains : Explains files text old new f) where
+  refused_cause : Cause files name old new status
+  refused_cause =
+      let P : Option (List ℕ) → Status → Type 0 = λ n s. Cause files n old new s in
+      subst (λ n. P n status) name_is (subst (λ s. P (Some text) s) (sym status_is) (cause_of files text old new f explains))
+
+  pub refused_exact : (shelf shelf' sink sink' : ℕ) → HasShelfCause (Err f) shelf shelf' → HasSinkCause (Err f) sink sink' → ¬ Rose shelf shelf' → ¬ Rose sink sink' → IsExact files name status
+  refused_exact shelf shelf' sink sink' read write calm_shelf calm_sink =
+      is_exact files name old new status refused_cause
+      (λ e. calm_shelf (rises_at_read f shelf shelf' read (sym status_is ∙ e)))
+      (λ e. calm_sink (rises_at_write f sink sink' write (sym status_is ∙ e)))
+
+  pub refused_tells : (err err' : Option (List ℕ)) (before now : ℕ) → AppendsPrefix err err' (refusal_line f) → (¬ Rose before now → Appends err err' (refusal_line f)) → Tells files name status err err' before now
+  refused_tells err err' before now told whole =
+      let P : Option (List ℕ) → Status → Type 0 = λ n s. Tells files n s err err' before now in
+      subst (λ n. P n status) name_is (subst (λ s. P (Some text) s) (sym status_is) (tells_refusal files text old new f explains err err' before now told whole))

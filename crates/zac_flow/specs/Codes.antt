@@ -1,0 +1,14 @@
+-- The numbers of the statuses.
+use Rattle.std.specs.Prelude.{ℕ}
+use Rattle.zac_flow.specs.declared.status.Status.{Status}
+use Rattle.zac_flow.specs.declared.status.Status.TheVariants.{Done, SourceRefused, Usage, ReadFault, WriteFault, NoMemory, TooManyQubits, TooLong}
+
+abbrev pub code_of : Status → ℕ
+code_of Done = 0
+code_of SourceRefused = 1
+code_of Usage = 2
+code_of ReadFault = 3
+code_of WriteFault = 4
+code_of NoMemory = 5
+code_of TooManyQubits = 7
+code_of TooLong = 10

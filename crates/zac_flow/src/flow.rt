@@ -1,0 +1,93 @@
+//! The top call.
+
+ghost use Rattle.std.specs.Prelude.{◌≡◌, Err, IfOk, IfErr, OnOk, IsTrue, map, string_bytes, MatchOption, None};
+ghost use Rattle.zac_io.specs.Outside.{Rose, RoseWhere, is_missing, Appends, AppendsPrefix};
+ghost use Rattle.zac_flow.specs.Ends.{status_of, refusal_line};
+ghost use Rattle.zac_flow.specs.Words.{file_of};
+ghost use Rattle.zac_flow.specs.Answers.{WritesProgram, Explains, Cause, IsExact, RisesAt, Tells};
+ghost use Rattle.zac_flow.specs.Told.{HasShelfCause, HasSinkCause};
+
+use crate::stages::{circuit_from, program_from};
+use crate::status::{Fault, Status};
+use crate::words::file_name;
+use std::alloc::Global;
+use zac_io::{Shelf, Sink, read_all};
+use zair_text::write_program;
+
+/// The most bytes of a source.
+const SOURCE_LIMIT: u32 = 4_194_304;
+
+/// Tells the refusal, and answers its status.
+fn refuse<E: Sink>(fault: Fault, err: &mut E) -> Status
+    ensures status { result ≡ status_of fault }
+    ensures told { AppendsPrefix (E.written err.old) (E.written err.new) (refusal_line fault) }
+    ensures whole { ¬ Rose (E.faults err.old) (E.faults err.new)
+        → Appends (E.written err.old) (E.written err.new) (refusal_line fault) }
+{
+    let _told = fault.tell(err);
+    fault.status()
+}
+
+/// Compiles the source of this name for the tiny card, and writes its program.
+fn compile_file<S: Shelf, K: Sink>(
+    alloc: Global,
+    name: &str,
+    shelf: &mut S,
+    out: &mut K,
+) -> Result<(), Fault>
+    ensures ok { OnOk result (WritesProgram (S.files shelf.old) name.now (K.written out.old) (K.written out.new)) }
+    ensures err { IfErr result (Explains (S.files shelf.old) name.now (K.written out.old) (K.written out.new)) }
+    ensures shelf_cause { HasShelfCause result (S.faults shelf.old) (S.faults shelf.new) }
+    ensures sink_cause { HasSinkCause result (K.faults out.old) (K.faults out.new) }
+    ensures stray { RoseWhere (is_missing (S.files shelf.old) name.now) (S.strays shelf.old) (S.strays shelf.new) }
+    ensures missing { IsTrue (is_missing (S.files shelf.old) name.now) → result ≡ Err Fault.Read }
+    ensures same_files { S.files shelf.new ≡ S.files shelf.old }
+{
+    let source = read_all(alloc, shelf, name, SOURCE_LIMIT)?;
+    let circuit = circuit_from(alloc, source.as_slice())?;
+    let program = program_from(alloc, &circuit)?;
+    write_program(alloc, &program, out)?;
+    Ok(())
+}
+
+/// Does what the words say. The words are those after the program's name: `compile @tiny FILE`.
+///
+/// `Done`: `out` gained the text of one program that performs the file's source on the tiny card, in every order
+/// that its times allow. `Usage` comes exactly where the words are no command. `ReadFault` comes only where a call
+/// on the shelf failed, `TooLong` exactly where the file has more than 4,194,304 bytes and no call failed,
+/// `SourceRefused` exactly where the file isn't of the first form, `TooManyQubits` exactly where its qubits exceed
+/// the storage traps, `WriteFault` only where a call on `out` failed, behind a prefix of the text. Want of memory
+/// may come always, behind whole lines. Every other refusal leaves `out` as it was. A refusal's line goes to `err`,
+/// whose failures change no status. The shelf is asked for the named file alone.
+pub fn run<S: Shelf, K: Sink, E: Sink>(
+    alloc: Global,
+    words: &[String],
+    shelf: &mut S,
+    out: &mut K,
+    err: &mut E,
+) -> Status
+    // Why it ends so, and what it left in out.
+    ensures cause { Cause (S.files shelf.old) (file_of (map (λ word. string_bytes word) words.now))
+        (K.written out.old) (K.written out.new) result }
+    // Where no call fails, each file gets the status that it deserves.
+    ensures exact { ¬ Rose (S.faults shelf.old) (S.faults shelf.new) → ¬ Rose (K.faults out.old) (K.faults out.new)
+        → IsExact (S.files shelf.old) (file_of (map (λ word. string_bytes word) words.now)) result }
+    // Failed calls.
+    ensures reads { RisesAt Status.ReadFault result (S.faults shelf.old) (S.faults shelf.new) }
+    ensures writes { RisesAt Status.WriteFault result (K.faults out.old) (K.faults out.new) }
+    ensures strays { MatchOption (file_of (map (λ word. string_bytes word) words.now))
+        (S.strays shelf.new ≡ S.strays shelf.old)
+        (λ name. RoseWhere (is_missing (S.files shelf.old) name) (S.strays shelf.old) (S.strays shelf.new)) }
+    ensures same_files { S.files shelf.new ≡ S.files shelf.old }
+    // The line of a refusal.
+    ensures told { Tells (S.files shelf.old) (file_of (map (λ word. string_bytes word) words.now)) result
+        (E.written err.old) (E.written err.new) (E.faults err.old) (E.faults err.new) }
+{
+    match file_name(words) {
+        None => refuse(Fault::Usage, err),
+        Some(name) => match compile_file(alloc, name, shelf, out) {
+            Ok(()) => Status::Done,
+            Err(fault) => refuse(fault, err),
+        },
+    }
+}

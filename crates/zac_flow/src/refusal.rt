@@ -1,0 +1,40 @@
+//! The line of a refusal.
+
+ghost use Rattle.std.specs.Prelude.{◌≡◌, codes, decimal};
+ghost use Rattle.zac_io.specs.Outside.{Writes, HasCause};
+ghost use Rattle.zac_flow.specs.Ends.{refusal_line, qubits_line};
+
+use crate::status::Fault;
+use itoa::Buffer;
+use zac_io::{Failed, Sink};
+
+impl Fault {
+    /// Writes the line of the refusal. It takes no memory.
+    pub fn tell<E: Sink>(&self, err: &mut E) -> Result<(), Failed>
+        ensures line { Writes (E.written err.old) (E.written err.new) (refusal_line self.now) result }
+        ensures cause { HasCause result (E.faults err.old) (E.faults err.new) }
+    {
+        match self {
+            Fault::Usage => err.write(b"usage: compile CARD QASM\n"),
+            Fault::Read => err.write(b"read fault: source\n"),
+            Fault::Long => err.write(b"too long: source\n"),
+            Fault::Form => err.write(b"source refused: Form\n"),
+            Fault::Qubits { qubits, traps } => tell_qubits(*qubits, *traps, err),
+            Fault::Write => err.write(b"write fault\n"),
+            Fault::Memory => err.write(b"out of memory\n"),
+        }
+    }
+}
+
+/// Writes that there are so many qubits for so many traps.
+fn tell_qubits<E: Sink>(qubits: u32, traps: u32, err: &mut E) -> Result<(), Failed>
+    ensures line { Writes (E.written err.old) (E.written err.new) (qubits_line qubits traps) result }
+    ensures cause { HasCause result (E.faults err.old) (E.faults err.new) }
+{
+    err.write(b"too many qubits: ")?;
+    err.write(Buffer::new().format(qubits).as_bytes())?;
+    err.write(b" for ")?;
+    err.write(Buffer::new().format(traps).as_bytes())?;
+    err.write(b" traps\n")?;
+    Ok(())
+}

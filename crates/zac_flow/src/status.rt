@@ -1,0 +1,82 @@
+//! How a command ends.
+
+ghost use Rattle.std.specs.Prelude.{◌≡◌};
+
+/// The status with which a command ends.
+#[derive(Clone, Copy, Debug, PartialEq, Eq)]
+pub enum Status {
+    /// The command did its work.
+    Done,
+    /// The source is refused.
+    SourceRefused,
+    /// The words are no command.
+    Usage,
+    /// A file could not be read.
+    ReadFault,
+    /// The output could not be written.
+    WriteFault,
+    /// There was no memory.
+    NoMemory,
+    /// The circuit has more qubits than the card has storage traps.
+    TooManyQubits,
+    /// A file is longer than its limit.
+    TooLong,
+}
+
+impl Status {
+    ghost use Rattle.zac_flow.specs.Codes.{code_of};
+
+    /// The number with which the program ends.
+    pub fn code(&self) -> u8
+        ensures { result ≡ code_of self.now }
+    {
+        match self {
+            Status::Done => 0,
+            Status::SourceRefused => 1,
+            Status::Usage => 2,
+            Status::ReadFault => 3,
+            Status::WriteFault => 4,
+            Status::NoMemory => 5,
+            Status::TooManyQubits => 7,
+            Status::TooLong => 10,
+        }
+    }
+}
+
+/// Why a command is refused.
+#[derive(Clone, Copy, Debug, PartialEq, Eq)]
+pub enum Fault {
+    /// The words are no command.
+    Usage,
+    /// The source could not be read.
+    Read,
+    /// The source is longer than its limit.
+    Long,
+    /// The source isn't of the first form.
+    Form,
+    /// So many qubits for so many storage traps.
+    Qubits { qubits: u32, traps: u32 },
+    /// The output could not be written.
+    Write,
+    /// There was no memory.
+    Memory,
+}
+
+impl Fault {
+    ghost use Rattle.zac_flow.specs.Ends.{status_of};
+
+    /// The status of the refusal.
+    pub fn status(&self) -> Status
+        ensures { result ≡ status_of self.now }
+    {
+        match self {
+            Fault::Usage => Status::Usage,
+            Fault::Read => Status::ReadFault,
+            Fault::Long => Status::TooLong,
+            Fault::Form => Status::SourceRefused,
+            Fault::Qubits { .. } => Status::TooManyQubits,
+            Fault::Write => Status::WriteFault,
+            Fault::Memory => Status::NoMemory,
+        }
+    }
+}

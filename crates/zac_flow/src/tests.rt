@@ -1,0 +1,213 @@
+//! Worked commands over memory.
+use super::*;
+use std::alloc::{AllocError, Global};
+use std::test::Fail;
+use zac_gates::{Bytes, List};
+use zac_io::{MemShelf, MemSink};
+
+// A source with one pair of two qubits.
+const PAIR: &str = "OPENQASM 2.0;\nqreg q[2];\nCX q[0],q[1];\n";
+
+// The lines of its program.
+const LINES: [&str; 7] = [
+    r#"{"type":"zair","version":1}"#,
+    r#"{"begin":0,"end":0,"homes":[0,1],"type":"init"}"#,
+    r#"{"begin":0,"end":52000,"gates":[{"op":0,"q":1,"u":["(pi/2)","0","pi"]}],"type":"1qGate"}"#,
+    r#"{"aod":0,"begin":52000,"end":142303,"steps":[{"atoms":[[0,0,0]],"columns":[[0,0]],"rows":[[0,0]],"step":"activate"},{"columns":[[0,0]],"rows":[[0,100]],"step":"move"},{"atoms":[[0,4]],"columns":[0],"rows":[0],"step":"deactivate"}],"type":"rearrangeJob"}"#,
+    r#"{"aod":0,"begin":142303,"end":232756,"steps":[{"atoms":[[1,0,0]],"columns":[[0,30]],"rows":[[0,0]],"step":"activate"},{"columns":[[0,20]],"rows":[[0,100]],"step":"move"},{"atoms":[[1,5]],"columns":[0],"rows":[0],"step":"deactivate"}],"type":"rearrangeJob"}"#,
+    r#"{"begin":232756,"end":233116,"pairs":[[1,0,1]],"type":"rydberg"}"#,
+    r#"{"begin":233116,"end":285116,"gates":[{"op":2,"q":1,"u":["(pi/2)","0","pi"]}],"type":"1qGate"}"#,
+];
+
+// The numbers of the calls that fail, counted from 1. The call 0 never comes.
+#[derive(Clone, Copy)]
+struct Failing {
+    shelf: u64,
+    out: u64,
+    err: u64,
+}
+
+const NONE: Failing = Failing {
+    shelf: 0,
+    out: 0,
+    err: 0,
+};
+
+// How a command ended, and what it wrote.
+#[derive(Drop)]
+struct Ended {
+    status: Status,
+    out: MemSink,
+    err: MemSink,
+}
+
+fn bytes(alloc: Global, from: &[u8]) -> Result<Bytes, AllocError> {
+    Ok(List::of(from.to_vec(alloc)?))
+}
+
+fn call(alloc: Global, number: u64) -> Result<List<u64>, AllocError> {
+    Ok(List::of([number].to_vec(alloc)?))
+}
+
+// Runs the words of the line over a shelf with the one file `f`.
+fn end_of(alloc: Global, line: &str, source: Bytes, failing: Failing) -> Result<Ended, Fail> {
+    let mut words = Vec::new(alloc);
+    for word in line.split_whitespace() {
+        words.push(word.to_string(alloc)?)?;
+    }
+    let mut files = Vec::new(alloc);
+    files.push((bytes(alloc, b"f")?, source))?;
+    let mut shelf = MemShelf::new(List::of(files), call(alloc, failing.shelf)?);
+    let mut out = MemSink::new(alloc, 4096, call(alloc, failing.out)?)?;
+    let mut err = MemSink::new(alloc, 4096, call(alloc, failing.err)?)?;
+    let status = run(alloc, words.as_slice(), &mut shelf, &mut out, &mut err);
+    Ok(Ended { status, out, err })
+}
+
+// The first lines of the program, each with its line feed.
+fn first_lines(alloc: Global, count: usize) -> Result<Vec<u8>, AllocError> {
+    let mut text = Vec::new(alloc);
+    for line in LINES.iter().take(count) {
+        text.extend_from_slice(line.as_bytes())?;
+        text.push(b'\n')?;
+    }
+    Ok(text)
+}
+
+#[test]
+fn writes_the_program_up_to_a_failed_write(rt: HostRuntime) -> Result<(), Fail> {
+    for failed in 0..9u64 {
+        let failing = Failing {
+            out: failed,
+            ..NONE
+        };
+        let source = bytes(rt.alloc(), PAIR.as_bytes())?;
+        let ended = end_of(rt.alloc(), "compile @tiny f", source, failing)?;
+        let (status, lines, told) = match failed {
+            0 | 8 => (Status::Done, 7, ""),
+            1 => (Status::WriteFault, 0, "write fault\n"),
+            2 => (Status::WriteFault, 1, "write fault\n"),
+            3 => (Status::WriteFault, 2, "write fault\n"),
+            4 => (Status::WriteFault, 3, "write fault\n"),
+            5 => (Status::WriteFault, 4, "write fault\n"),
+            6 => (Status::WriteFault, 5, "write fault\n"),
+            _ => (Status::WriteFault, 6, "write fault\n"),
+        };
+        let text = first_lines(rt.alloc(), lines)?;
+        assert_eq!(rt; ended.status, status, "write {failed}");
+        assert_eq!(rt; ended.out.bytes(), text.as_slice(), "write {failed}");
+        assert_eq!(rt; ended.err.bytes(), told.as_bytes(), "write {failed}");
+    }
+    Ok(())
+}
+
+#[test]
+fn tells_why_a_command_is_refused(rt: HostRuntime) -> Result<(), Fail> {
+    let usage = "usage: compile CARD QASM\n";
+    let read = "read fault: source\n";
+    // (line, listed call of the shelf, status, what is told)
+    let rows = [
+        ("", 0, Status::Usage, usage),
+        ("compile", 0, Status::Usage, usage),
+        ("compile @tiny", 0, Status::Usage, usage),
+        ("compile @standard f", 0, Status::Usage, usage),
+        ("Compile @tiny f", 0, Status::Usage, usage),
+        ("compile @tiny f f", 0, Status::Usage, usage),
+        ("compile @tiny g", 0, Status::ReadFault, read),
+        ("compile @tiny f", 1, Status::ReadFault, read),
+        ("compile @tiny f", 2, Status::ReadFault, read),
+    ];
+    for (line, listed, status, told) in rows {
+        for failed in 0..2u64 {
+            let failing = Failing {
+                shelf: listed,
+                out: 0,
+                err: failed,
+            };
+            let source = bytes(rt.alloc(), PAIR.as_bytes())?;
+            let ended = end_of(rt.alloc(), line, source, failing)?;
+            let told = if failed == 0 { told } else { "" };
+            assert_eq!(rt; ended.status, status, "{line}");
+            assert_eq!(rt; ended.out.bytes(), b"".as_slice(), "{line}");
+            assert_eq!(rt; ended.err.bytes(), told.as_bytes(), "{line}");
+        }
+    }
+    Ok(())
+}
+
+#[test]
+fn counts_the_qubits(rt: HostRuntime) -> Result<(), Fail> {
+    let pair = "CX q[0],q[1];\n";
+    // (register, pairs, status, what is told)
+    let rows = [
+        ("qreg q[2];\n", 2, Status::Done, ""),
+        ("qreg q[4];\n", 0, Status::Done, ""),
+        (
+            "qreg q[5];\n",
+            0,
+            Status::TooManyQubits,
+            "too many qubits: 5 for 4 traps\n",
+        ),
+        (
+            "qreg q[4096];\n",
+            1,
+            Status::TooManyQubits,
+            "too many qubits: 4096 for 4 traps\n",
+        ),
+        (
+            "qreg q[0];\n",
+            0,
+            Status::SourceRefused,
+            "source refused: Form\n",
+        ),
+    ];
+    for (register, pairs, status, told) in rows {
+        let mut source = b"OPENQASM 2.0;\n".to_vec(rt.alloc())?;
+        source.extend_from_slice(register.as_bytes())?;
+        for _ in 0..pairs {
+            source.extend_from_slice(pair.as_bytes())?;
+        }
+        let ended = end_of(rt.alloc(), "compile @tiny f", List::of(source), NONE)?;
+        assert_eq!(rt; ended.status, status, "{register}");
+        assert_eq!(rt;
+            ended.out.bytes().is_empty(),
+            status != Status::Done,
+            "{register}"
+        );
+        assert_eq!(rt; ended.err.bytes(), told.as_bytes(), "{register}");
+    }
+    Ok(())
+}
+
+#[test]
+fn limits_the_bytes_of_a_source(rt: HostRuntime) -> Result<(), Fail> {
+    let rows = [
+        (4_194_304, Status::SourceRefused, "source refused: Form\n"),
+        (4_194_305, Status::TooLong, "too long: source\n"),
+    ];
+    for (length, status, told) in rows {
+        let source = vec![in rt.alloc(); b' '; length]?;
+        let ended = end_of(rt.alloc(), "compile @tiny f", List::of(source), NONE)?;
+        assert_eq!(rt; ended.status, status, "{length}");
+        assert_eq!(rt; ended.out.bytes(), b"".as_slice(), "{length}");
+        assert_eq!(rt; ended.err.bytes(), told.as_bytes(), "{length}");
+    }
+    Ok(())
+}
+
+#[test]
+fn numbers_each_status(rt: HostRuntime) {
+    let rows = [
+        (Status::Done, 0),
+        (Status::SourceRefused, 1),
+        (Status::Usage, 2),
+        (Status::ReadFault, 3),
+        (Status::WriteFault, 4),
+        (Status::NoMemory, 5),
+        (Status::TooManyQubits, 7),
+        (Status::TooLong, 10),
+    ];
+    for (status, code) in rows {
+        assert_eq!(rt; status.code(), code, "{status:?}");
+    }
+}
