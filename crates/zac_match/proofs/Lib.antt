@@ -1,0 +1,5 @@
+pub mod Pairs
+pub mod ChainFacts
+pub mod TreeFacts
+pub mod SearchFacts
+pub mod Cover

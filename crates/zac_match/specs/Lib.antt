@@ -1,0 +1,4 @@
+pub mod Choice
+pub mod Pairing
+pub mod Chains
+pub mod Tree
