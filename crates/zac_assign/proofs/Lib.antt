@@ -1,0 +1,4 @@
+pub mod PairFacts
+pub mod TreeFacts
+pub mod SearchFacts
+pub mod Bound

@@ -1,0 +1,5 @@
+pub mod Assignment
+pub mod Costs
+pub mod Pairing
+pub mod Tree
+pub mod Search
