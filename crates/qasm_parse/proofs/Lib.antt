@@ -1,0 +1,13 @@
+pub mod SymbolLemmas
+pub mod DecidesLemmas
+pub mod RepeatLemmas
+pub mod ExpressionLemmas
+pub mod StepLemmas
+pub mod RunExpressions
+pub mod SameLemmas
+pub mod PartLemmas
+pub mod StatementLemmas
+pub mod MoveLemmas
+pub mod LoopLemmas
+pub mod AnswerLemmas
+pub mod PostfixLemmas

@@ -1,0 +1,13 @@
+pub mod Symbols
+pub mod SameSymbols
+pub mod Languages
+pub mod Readers
+pub mod Expressions
+pub mod Openings
+pub mod Grammar
+pub mod Readings
+pub mod Gives
+pub mod Moves
+pub mod Bodies
+pub mod Statements
+pub mod Postfix

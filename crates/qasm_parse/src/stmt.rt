@@ -1,0 +1,206 @@
+//! Statements as values.
+
+use std::alloc::{AllocError, AllocFailed};
+use std::marker::Model;
+use zac_gates::{Bytes, List};
+
+/// A function in an expression.
+#[derive(Clone, Copy, Debug, PartialEq, Eq)]
+pub enum Function {
+    Sin,
+    Cos,
+    Tan,
+    Exp,
+    Ln,
+    Sqrt,
+}
+
+/// A node of an expression in postfix order: an operator stands behind its operands.
+#[derive(Debug, Drop)]
+pub enum Node {
+    /// A whole number or a real, as the source has it.
+    Number { text: Bytes },
+    /// The number pi.
+    Pi,
+    /// A parameter, and its offset.
+    Name { name: Bytes, at: u32 },
+    /// The operand before it with the other sign.
+    Negate,
+    /// The function of the operand before it.
+    Apply { function: Function },
+    /// The sum of the two operands before it.
+    Plus,
+    /// Their difference.
+    Minus,
+    /// Their product.
+    Times,
+    /// Their quotient.
+    Over,
+    /// The first to the power of the second.
+    Power,
+}
+
+/// An expression as its nodes in postfix order: each operator has its operands before it, and one operand is left at the
+/// end. Contracts see the list of the nodes.
+#[derive(Debug, Drop)]
+pub struct Expr {
+    /// The nodes.
+    pub nodes: List<Node>,
+}
+
+impl Model for Expr {
+    ghost use Rattle.std.specs.Prelude.{List};
+    ghost use Rattle.qasm_parse.specs.declared.stmt.Node.{Node};
+
+    ghost Value = { List Node };
+
+    ghost use Rattle.qasm_parse.specs.Postfix.{IsPostfix};
+
+    ghost view = { λ e. e.nodes };
+
+    ghost invariant = { λ e. IsPostfix e.nodes };
+}
+
+impl Expr {
+    ghost use Rattle.std.specs.Prelude.{◌≡◌};
+    ghost use Rattle.qasm_parse.specs.Postfix.{IsPostfix};
+
+    /// The nodes in postfix order.
+    pub fn as_slice(&self) -> &[Node]
+        ensures nodes { result.now ≡ self.now }
+        ensures postfix { IsPostfix self.now }
+    {
+        self.nodes.as_slice()
+    }
+}
+
+/// A name with its offset.
+#[derive(Debug, Drop)]
+pub struct Named {
+    /// The name.
+    pub word: Bytes,
+    /// The offset of its first byte.
+    pub at: u32,
+}
+
+/// An argument: a register, or with an index one of its places.
+#[derive(Debug, Drop)]
+pub struct Arg {
+    /// The register's name, or an argument's in a body.
+    pub word: Bytes,
+    /// The index; one past 2^64 - 1 stands as 2^64 - 1.
+    pub index: Option<u64>,
+    /// The offset of the name.
+    pub at: u32,
+}
+
+/// A call: of `U`, `CX`, `barrier` or a gate.
+#[derive(Debug, Drop)]
+pub struct BodyOp {
+    /// `U`, `CX`, `barrier` or the gate's name.
+    pub name: Bytes,
+    /// The name's offset.
+    pub at: u32,
+    /// The angles.
+    pub exprs: List<Expr>,
+    /// The arguments.
+    pub args: List<Arg>,
+}
+
+/// A statement.
+#[derive(Debug, Drop)]
+pub enum Stmt {
+    /// The version, which opens a source. The offset is that of the number.
+    Version {
+        number: Bytes,
+        at: u32,
+    },
+    /// An include, with the name between the quotes and the offset of the string.
+    Include {
+        name: Bytes,
+        at: u32,
+    },
+    /// A register of qubits. A size past 2^64 - 1 stands as 2^64 - 1.
+    Qreg {
+        name: Bytes,
+        size: u64,
+        at: u32,
+    },
+    /// A register of bits. A size past 2^64 - 1 stands as 2^64 - 1.
+    Creg {
+        name: Bytes,
+        size: u64,
+        at: u32,
+    },
+    /// The declaration of a gate, with the offset of its name.
+    Gate {
+        name: Bytes,
+        params: List<Named>,
+        args: List<Named>,
+        body: List<BodyOp>,
+        at: u32,
+    },
+    /// The declaration of a gate without a body, with the offset of its name.
+    Opaque {
+        name: Bytes,
+        params: List<Named>,
+        args: List<Named>,
+        at: u32,
+    },
+    /// A call of a gate.
+    Call {
+        call: BodyOp,
+    },
+    /// A measurement, with the offset of its first word.
+    Measure {
+        from: Arg,
+        into: Arg,
+        at: u32,
+    },
+    /// A reset, with the offset of its first word.
+    Reset {
+        arg: Arg,
+        at: u32,
+    },
+    /// A barrier, with the offset of its first word.
+    Barrier {
+        args: List<Arg>,
+        at: u32,
+    },
+    /// A statement under a condition, of which the offset of its first word is kept.
+    If {
+        at: u32,
+    },
+}
+
+/// Why no statement is read.
+#[derive(Clone, Copy, Debug, PartialEq, Eq)]
+pub enum SyntaxFault {
+    /// Memory ran out.
+    Memory,
+    /// The offset of the first token with which the tokens so far begin no statement, or the source's length where
+    /// the tokens end before the statement does.
+    At { at: u32 },
+}
+
+impl From<AllocError> for SyntaxFault {
+    ghost use Rattle.std.specs.Prelude.{◌≡◌};
+    ghost use Rattle.qasm_parse.specs.declared.stmt.SyntaxFault.TheVariants.{Memory};
+
+    ghost from_gives = { λ _ e. e ≡ Memory };
+
+    fn from(_error: AllocError) -> SyntaxFault {
+        SyntaxFault::Memory
+    }
+}
+
+impl<T: Drop> From<AllocFailed<T>> for SyntaxFault {
+    ghost use Rattle.std.specs.Prelude.{◌≡◌};
+    ghost use Rattle.qasm_parse.specs.declared.stmt.SyntaxFault.TheVariants.{Memory};
+
+    ghost from_gives = { λ _ e. e ≡ Memory };
+
+    fn from(_error: AllocFailed<T>) -> SyntaxFault {
+        SyntaxFault::Memory
+    }
+}
