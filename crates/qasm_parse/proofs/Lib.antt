@@ -11,3 +11,8 @@ pub mod MoveLemmas
 pub mod LoopLemmas
 pub mod AnswerLemmas
 pub mod PostfixLemmas
+pub mod SpeltLemmas
+pub mod NumberLemmas
+pub mod TokenLemmas
+pub mod LeftLemmas
+pub mod NumberBytes

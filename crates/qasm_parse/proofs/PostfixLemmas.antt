@@ -82,7 +82,7 @@ operator_map op.Times rest nodes n m to h = two_map n m (after_parts rest) (oper
 operator_map op.Over rest nodes n m to h = two_map n m (after_parts rest) (operands nodes) to h
 operator_map op.Power rest nodes n m to h = two_map n m (after_parts rest) (operands nodes) to h
 
-some_same : {a b : Node} → Some a ≡ Some b → a ≡ b
+pub some_same : {a b : Node} → Some a ≡ Some b → a ≡ b
 some_same e = cc
 
 leaf_operand : (s : Symbol) (text : List ℕ) (at : ℕ) (found : Node) → leaf_node s text at ≡ Some found → (nodes : List Node) (n m : ℕ) → operands nodes (suc n) ≡ Some m → operands (found ∷ nodes) n ≡ Some m
@@ -104,30 +104,34 @@ postfix_of (writes {o = o} {rest = rest} {nodes = ns} d) n m h =
 ok_same : {p q : (List Node × Bool) × List Lexeme} → ◌≡◌ {A = Result ((List Node × Bool) × List Lexeme) ℕ} (Ok p) (Ok q) → p ≡ q
 ok_same e = cc
 
--- what the reader answers was derived
+-- what the reader answers was derived from the first of its tokens
 module _ (class : Symbol → Option Bool) (end : ℕ) where
-  abbrev Read : List Part → List Node → List Node → Type 0
-  Read parts before all = (front : List Lexeme) × (more : List Node) × Derives parts front more × (all ≡ before ++ more)
+  abbrev Read : List Part → List Lexeme → List Node → List Node → Type 0
+  Read parts tokens before all =
+      (front : List Lexeme) × (rest : List Lexeme) × (more : List Node) × (tokens ≡ front ++ rest) × Derives parts front more × (all ≡ before ++ more)
 
-  closed_read : (parts : List Part) (before more : List Node) (x : Lexeme) (ts : List Lexeme) (v : List Node × Bool) (rest : List Lexeme) → Derives parts [] more → (o : Option Bool) → closed x (before ++ more) ts o ≡ Ok (v, rest) → Read parts before v.0
+  closed_read : (parts : List Part) (before more : List Node) (x : Lexeme) (ts : List Lexeme) (v : List Node × Bool) (rest : List Lexeme) → Derives parts [] more → (o : Option Bool) → closed x (before ++ more) ts o ≡ Ok (v, rest) → Read parts (x ∷ ts) before v.0
   closed_read parts before more x ts v rest d (Some b) is =
-      ([], more, d, flip (ap (λ (p : (List Node × Bool) × List Lexeme). p.0.0) (ok_same is)))
+      ([], x ∷ ts, more, refl, d, flip (ap (λ (p : (List Node × Bool) × List Lexeme). p.0.0) (ok_same is)))
   closed_read parts before more x ts v rest d None is = absurd (cc)
 
-  step_read : (parts : List Part) (before : List Node) (x : Lexeme) (ts : List Lexeme) (v : List Node × Bool) (rest : List Lexeme) → ((left : List Part) (all : List Node) → InOrder left → run class end left all ts ≡ Ok (v, rest) → Read left all v.0) → (s : Step) → StepMeans parts x s → stepped x (class x.symbol) before ts (λ left all. run class end left all ts) s ≡ Ok (v, rest) → Read parts before v.0
+  step_read : (parts : List Part) (before : List Node) (x : Lexeme) (ts : List Lexeme) (v : List Node × Bool) (rest : List Lexeme) → ((left : List Part) (all : List Node) → InOrder left → run class end left all ts ≡ Ok (v, rest) → Read left ts all v.0) → (s : Step) → StepMeans parts x s → stepped x (class x.symbol) before ts (λ left all. run class end left all ts) s ≡ Ok (v, rest) → Read parts (x ∷ ts) before v.0
   step_read parts before x ts v rest next (Taken left more) m is =
       let r = next left (before ++ more) m.in_order is in
-      (x ∷ r.0, more ++ r.1, m.to r.0 r.1 r.2, r.3 ∙ append_assoc before more r.1)
+      (x ∷ r.0, r.1, more ++ r.2, ap (λ t. x ∷ t) r.3, m.to r.0 r.2 r.4, r.5 ∙ append_assoc before more r.2)
   step_read parts before x ts v rest next Refused m is = absurd (cc)
   step_read parts before x ts v rest next (Passed more) m is =
       closed_read parts before more x ts v rest m.empty (class x.symbol) is
 
-  run_read : (ts : List Lexeme) (parts : List Part) (before : List Node) → InOrder parts → (v : List Node × Bool) (rest : List Lexeme) → run class end parts before ts ≡ Ok (v, rest) → Read parts before v.0
+  run_read : (ts : List Lexeme) (parts : List Part) (before : List Node) → InOrder parts → (v : List Node × Bool) (rest : List Lexeme) → run class end parts before ts ≡ Ok (v, rest) → Read parts ts before v.0
   run_read [] parts before order v rest is = absurd (cc)
   run_read (x ∷ ts) parts before order v rest is =
       step_read parts before x ts v rest (λ left all next e. run_read ts left all next v rest e) (advance parts x) (advance_means parts x order) is
 
-  pub run_postfix : (ts : List Lexeme) (v : List Node × Bool) (rest : List Lexeme) → run class end (part.Expr ∷ []) [] ts ≡ Ok (v, rest) → IsPostfix v.0
-  run_postfix ts v rest is =
+  pub run_derived : (ts : List Lexeme) (v : List Node × Bool) (rest : List Lexeme) → run class end (part.Expr ∷ []) [] ts ≡ Ok (v, rest) → (front : List Lexeme) × (left : List Lexeme) × (ts ≡ front ++ left) × Derives (part.Expr ∷ []) front v.0
+  run_derived ts v rest is =
       let r = run_read ts (part.Expr ∷ []) [] (tt, tt) v rest is in
-      subst IsPostfix (flip r.3) (postfix_of r.2 0 1 refl)
+      (r.0, r.1, r.3, subst (Derives (part.Expr ∷ []) r.0) (flip r.5) r.4)
+
+  pub run_postfix : (ts : List Lexeme) (v : List Node × Bool) (rest : List Lexeme) → run class end (part.Expr ∷ []) [] ts ≡ Ok (v, rest) → IsPostfix v.0
+  run_postfix ts v rest is = postfix_of (run_derived ts v rest is).3 0 1 refl

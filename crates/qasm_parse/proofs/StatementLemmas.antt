@@ -197,7 +197,7 @@ unfolding with_params
 decides_params end stop apart =
     after_token end sym.OpenParen _ _ (λ _. decides_then end (PerhapsListed Name sym.CloseParen) _ (perhaps_names end sym.CloseParen) _ (decides_perhaps_names end) (λ params. decides_argument_names end stop params apart))
 
-decides_signature : (end : ℕ) (stop : Symbol) → same_symbol sym.Comma stop ≡ false → Decides (Signature stop) end (signature end stop)
+pub decides_signature : (end : ℕ) (stop : Symbol) → same_symbol sym.Comma stop ≡ false → Decides (Signature stop) end (signature end stop)
 unfolding signature
 decides_signature end stop apart =
     decides_or end (is sym.OpenParen) (Token sym.OpenParen >>= λ _. PerhapsListed Name sym.CloseParen >>= λ params. ArgumentNames stop params) (ArgumentNames stop []) (with_params end stop) (argument_names end stop []) (decides_params end stop apart) (decides_argument_names end stop [] apart) (first_then (is sym.OpenParen) true (Token sym.OpenParen) _ (first_token (is sym.OpenParen) true sym.OpenParen refl)) (first_then (is sym.OpenParen) false (ListedUntil Name stop) _ (first_then (is sym.OpenParen) false (Listed Name) _ (first_listed (is sym.OpenParen) false Name (name_first (is sym.OpenParen) false refl))))
@@ -242,11 +242,11 @@ decides_barrier end x =
     decides_then end (ListedUntil Argument sym.Semicolon) _ (args_until end Top sym.Semicolon) _ (decides_args end Top) (λ args. decides_value end (stmt.Barrier args x.at))
 
 -- a condition, and what it is about
-abbrev Condition : Language Lexeme
+abbrev pub Condition : Language Lexeme
 Condition =
     Token sym.OpenParen >>= λ _. Token sym.Identifier >>= λ _. Token sym.Equals >>= λ _. Token sym.Whole >>= λ _. Token sym.CloseParen
 
-decides_condition : (end : ℕ) → Decides Condition end (condition end)
+pub decides_condition : (end : ℕ) → Decides Condition end (condition end)
 unfolding condition
 decides_condition end =
     after_token end sym.OpenParen _ _ (λ _. after_token end sym.Identifier _ _ (λ _. after_token end sym.Equals _ _ (λ _. after_token end sym.Whole _ _ (λ _. decides_token end sym.CloseParen))))

@@ -11,3 +11,4 @@ pub mod Moves
 pub mod Bodies
 pub mod Statements
 pub mod Postfix
+pub mod Numbers

@@ -20,6 +20,11 @@ pub record IsStatement (tokens : List Lexeme) (from : ℕ) (statement : Stmt) (n
   pub within : next ≤ length tokens
   pub derived : StatementAt from (take (next - from) (drop from tokens)) statement
 
+-- the tokens from a place up to another are these statements, one behind the other
+abbrev pub FallInto : List Lexeme → ℕ → List Stmt → ℕ → Type 0
+FallInto tokens from [] to = to ≡ from
+FallInto tokens from (s ∷ ss) to = (next : ℕ) × IsStatement tokens from s next × FallInto tokens next ss to
+
 -- some statement begins with these tokens and goes on behind them
 abbrev pub Begins : ℕ → List Lexeme → Type 0
 Begins from front =

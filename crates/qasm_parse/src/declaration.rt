@@ -3,6 +3,7 @@
 ghost use Rattle.std.specs.Prelude.{◌≡◌, Some};
 ghost use Rattle.qasm_parse.specs.Bodies.{item_of};
 ghost use Rattle.qasm_parse.specs.Gives.{Gives, seen};
+ghost use Rattle.qasm_parse.specs.Numbers.{AreSpelt};
 ghost use Rattle.qasm_parse.specs.Readings.{
   argument_names,
   body_item,
@@ -99,6 +100,7 @@ fn body_item<'a>(
     end: u32,
     rest: &'a [Token],
 ) -> Read<'a, Option<BodyOp>>
+    requires { AreSpelt (lexemes_of source.now rest.now) }
     ensures { Gives (λ x. (item_of x.0, lexemes_of source.now x.1.now)) result
         (body_item end (lexemes_of source.now rest.now)) }
 {
@@ -114,6 +116,7 @@ fn body_item<'a>(
 
 /// The operations of a body, up to its end.
 fn body_ops<'a>(alloc: Global, source: &[u8], end: u32, rest: &'a [Token]) -> Read<'a, List<BodyOp>>
+    requires { AreSpelt (lexemes_of source.now rest.now) }
     ensures { Gives (seen source.now) result (body_ops end (lexemes_of source.now rest.now)) }
 {
     let mut ops = Vec::new(alloc);
@@ -131,6 +134,7 @@ fn body_ops<'a>(alloc: Global, source: &[u8], end: u32, rest: &'a [Token]) -> Re
 /// The declaration of a gate with a body.
 #[tactic(auto, unfolding(crate::specs::Readings::gate))]
 pub(crate) fn gate<'a>(alloc: Global, source: &[u8], end: u32, rest: &'a [Token]) -> Read<'a, Stmt>
+    requires { AreSpelt (lexemes_of source.now rest.now) }
     ensures { Gives (seen source.now) result (gate end (lexemes_of source.now rest.now)) }
 {
     let (token, rest) = take(source, end, rest, Symbol::Identifier)?;

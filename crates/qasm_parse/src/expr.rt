@@ -14,6 +14,7 @@ ghost use Rattle.qasm_parse.specs.Expressions.{
 ghost use Rattle.qasm_parse.specs.Gives.{Gives, seen};
 ghost use Rattle.qasm_parse.specs.Moves.{Goes, IsRaised, IsSigned, Moves};
 ghost use Rattle.qasm_parse.specs.Openings.{follows};
+ghost use Rattle.qasm_parse.specs.Numbers.{AreSpelt};
 ghost use Rattle.qasm_parse.specs.Readings.{expr_then};
 ghost use Rattle.qasm_parse.specs.Symbols.{lexeme_of, lexemes_of};
 
@@ -278,6 +279,7 @@ pub(crate) fn expr_then<'a>(
     rest: &'a [Token],
     class: Follow,
 ) -> Read<'a, (Expr, bool)>
+    requires { AreSpelt (lexemes_of source.now rest.now) }
     ensures { Gives (seen source.now) result (expr_then end class (lexemes_of source.now rest.now)) }
 {
     let ((nodes, more), rest) = nodes_then(alloc, source, end, rest, class)?;

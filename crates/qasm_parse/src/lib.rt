@@ -5,6 +5,7 @@ mod cursor;
 mod declaration;
 pub mod expr;
 mod item;
+pub mod laws;
 mod lists;
 pub mod opening;
 mod operation;

@@ -2,6 +2,7 @@
 
 ghost use Rattle.std.specs.Prelude.{◌≡◌};
 ghost use Rattle.qasm_parse.specs.Gives.{Gives, seen};
+ghost use Rattle.qasm_parse.specs.Numbers.{AreSpelt};
 ghost use Rattle.qasm_parse.specs.Readings.{
   args_until,
   exprs_until,
@@ -80,6 +81,7 @@ pub(crate) fn exprs_until<'a>(
     end: u32,
     rest: &'a [Token],
 ) -> Read<'a, List<Expr>>
+    requires { AreSpelt (lexemes_of source.now rest.now) }
     ensures { Gives (seen source.now) result (exprs_until end Symbol.CloseParen (lexemes_of source.now rest.now)) }
 {
     let mut exprs = Vec::new(alloc);
@@ -127,6 +129,7 @@ pub(crate) fn perhaps_exprs<'a>(
     end: u32,
     rest: &'a [Token],
 ) -> Read<'a, List<Expr>>
+    requires { AreSpelt (lexemes_of source.now rest.now) }
     ensures { Gives (seen source.now) result (perhaps_exprs end Symbol.CloseParen (lexemes_of source.now rest.now)) }
 {
     let (next, _) = first(source, end, rest)?;

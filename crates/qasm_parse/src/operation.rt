@@ -3,6 +3,7 @@
 ghost use Rattle.std.specs.Prelude.{◌≡◌, [], ◌∷◌, IfOk, IfErr};
 ghost use Rattle.qasm_parse.specs.Gives.{Gives, seen};
 ghost use Rattle.qasm_parse.specs.Grammar.{operation};
+ghost use Rattle.qasm_parse.specs.Numbers.{AreSpelt};
 ghost use Rattle.qasm_parse.specs.Readings.{
   after_body_verb,
   after_verb,
@@ -80,6 +81,7 @@ fn gate_u<'a>(
     place: Place,
     token: Token,
 ) -> Read<'a, BodyOp>
+    requires { AreSpelt (lexemes_of source.now rest.now) }
     ensures { Gives (seen source.now) result (gate_u end place (lexeme_of source.now token) (lexemes_of source.now rest.now)) }
 {
     let (_, rest) = take(source, end, rest, Symbol::OpenParen)?;
@@ -156,6 +158,7 @@ fn with_angles<'a>(
     place: Place,
     token: Token,
 ) -> Read<'a, BodyOp>
+    requires { AreSpelt (lexemes_of source.now rest.now) }
     ensures { Gives (seen source.now) result (with_angles end place (lexeme_of source.now token) (lexemes_of source.now rest.now)) }
 {
     let (_, rest) = take(source, end, rest, Symbol::OpenParen)?;
@@ -173,6 +176,7 @@ fn call<'a>(
     place: Place,
     token: Token,
 ) -> Read<'a, BodyOp>
+    requires { AreSpelt (lexemes_of source.now rest.now) }
     ensures { Gives (seen source.now) result (call end place (lexeme_of source.now token) (lexemes_of source.now rest.now)) }
 {
     let (next, _) = first(source, end, rest)?;
@@ -248,6 +252,7 @@ pub(crate) fn after_verb<'a>(
     verb: Verb,
     token: Token,
 ) -> Read<'a, Stmt>
+    requires { AreSpelt (lexemes_of source.now rest.now) }
     ensures { Gives (seen source.now) result (after_verb end verb (lexeme_of source.now token) (lexemes_of source.now rest.now)) }
 {
     match verb {
@@ -278,6 +283,7 @@ fn after_body_verb<'a>(
     verb: BodyVerb,
     token: Token,
 ) -> Read<'a, BodyOp>
+    requires { AreSpelt (lexemes_of source.now rest.now) }
     ensures { Gives (seen source.now) result (after_body_verb end verb (lexeme_of source.now token) (lexemes_of source.now rest.now)) }
 {
     match verb {
@@ -299,6 +305,7 @@ pub(crate) fn body_operation<'a>(
     end: u32,
     rest: &'a [Token],
 ) -> Read<'a, BodyOp>
+    requires { AreSpelt (lexemes_of source.now rest.now) }
     ensures { Gives (seen source.now) result (body_operation end (lexemes_of source.now rest.now)) }
 {
     let ((verb, token), rest) = body_verb(source, end, rest)?;

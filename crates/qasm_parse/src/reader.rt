@@ -4,6 +4,7 @@ ghost use Rattle.std.specs.Prelude.{◌≡◌, ◌<◌, ◌≤◌, ◌^◌, ◌�
 ghost use Rattle.qasm_lex.specs.Cuts.{AreTokensOf};
 ghost use Rattle.qasm_parse.specs.Gives.{Gives, seen, seen_token};
 ghost use Rattle.qasm_parse.specs.Grammar.{unquoted};
+ghost use Rattle.qasm_parse.specs.Numbers.{AreSpelt};
 ghost use Rattle.qasm_parse.specs.Readings.{
   after_opening,
   barrier,
@@ -93,6 +94,7 @@ fn conditional<'a>(
     rest: &'a [Token],
     token: Token,
 ) -> Read<'a, Stmt>
+    requires { AreSpelt (lexemes_of source.now rest.now) }
     ensures { Gives (seen source.now) result (conditional end (lexeme_of source.now token) (lexemes_of source.now rest.now)) }
 {
     let (_, rest) = condition(source, end, rest)?;
@@ -112,6 +114,7 @@ fn after_opening<'a>(
     opening: Opening,
     token: Token,
 ) -> Read<'a, Stmt>
+    requires { AreSpelt (lexemes_of source.now rest.now) }
     ensures { Gives (seen source.now) result (after_opening end opening (lexeme_of source.now token) (lexemes_of source.now rest.now)) }
 {
     match opening {
@@ -144,6 +147,7 @@ pub(crate) fn statement_at<'a>(
     end: u32,
     rest: &'a [Token],
 ) -> Read<'a, Stmt>
+    requires { AreSpelt (lexemes_of source.now rest.now) }
     ensures { Gives (seen source.now) result (statement_at end (lexemes_of source.now rest.now)) }
 {
     let ((opening, token), rest) = opening(source, end, rest)?;
@@ -204,6 +208,7 @@ fn answer(
     requires small { length source.now < 2 ^ 32 }
     requires few { length tokens.now < 2 ^ 32 }
     requires place { from < length tokens.now }
+    requires spelt { AreSpelt (lexemes_of source.now tokens.now) }
     ensures { IsAnswer (lexemes_of source.now tokens.now) from (length source.now) result }
 {
     let end = source.len() as u32;
@@ -221,6 +226,7 @@ fn read_at<'a>(
     rest: &'a [Token],
     from: u32,
 ) -> Read<'a, Stmt>
+    requires { AreSpelt (lexemes_of source.now rest.now) }
     ensures reads { Gives (seen source.now) result (reading_at from end (lexemes_of source.now rest.now)) }
     ensures shorter { IfOk result (λ x. length x.1.now ≤ length rest.now) }
 {

@@ -1,4 +1,5 @@
-//! Statements as values.
+//! Statements as values. All but `Expr` are plain data: whoever has the parts may make one, and what their fields say of a
+//! source is said where they are read from it. `Expr` keeps the rules of an expression by itself, wherever it was made.
 
 use std::alloc::{AllocError, AllocFailed};
 use std::marker::Model;
@@ -18,7 +19,7 @@ pub enum Function {
 /// A node of an expression in postfix order: an operator stands behind its operands.
 #[derive(Debug, Drop)]
 pub enum Node {
-    /// A whole number or a real, as the source has it.
+    /// A whole number or a real, as the source has it. In an `Expr` the text is one digit or more, or a real.
     Number { text: Bytes },
     /// The number pi.
     Pi,
@@ -41,7 +42,7 @@ pub enum Node {
 }
 
 /// An expression as its nodes in postfix order: each operator has its operands before it, and one operand is left at the
-/// end. Contracts see the list of the nodes.
+/// end. The text of each number is one digit or more, or a real. Contracts see the list of the nodes.
 #[derive(Debug, Drop)]
 pub struct Expr {
     /// The nodes.
@@ -54,27 +55,30 @@ impl Model for Expr {
 
     ghost Value = { List Node };
 
-    ghost use Rattle.qasm_parse.specs.Postfix.{IsPostfix};
+    ghost use Rattle.qasm_parse.specs.Numbers.{IsExpression};
 
     ghost view = { λ e. e.nodes };
 
-    ghost invariant = { λ e. IsPostfix e.nodes };
+    ghost invariant = { λ e. IsExpression e.nodes };
 }
 
 impl Expr {
     ghost use Rattle.std.specs.Prelude.{◌≡◌};
+    ghost use Rattle.std.specs.List.{AllByRecursion};
+    ghost use Rattle.qasm_parse.specs.Numbers.{HasNumber};
     ghost use Rattle.qasm_parse.specs.Postfix.{IsPostfix};
 
-    /// The nodes in postfix order.
+    /// The nodes in postfix order. Each number's text is one digit or more, or a real.
     pub fn as_slice(&self) -> &[Node]
         ensures nodes { result.now ≡ self.now }
         ensures postfix { IsPostfix self.now }
+        ensures numbers { AllByRecursion HasNumber self.now }
     {
         self.nodes.as_slice()
     }
 }
 
-/// A name with its offset.
+/// A name with its offset. Both are plain data.
 #[derive(Debug, Drop)]
 pub struct Named {
     /// The name.
@@ -83,7 +87,7 @@ pub struct Named {
     pub at: u32,
 }
 
-/// An argument: a register, or with an index one of its places.
+/// An argument: a register, or with an index one of its places. All fields are plain data.
 #[derive(Debug, Drop)]
 pub struct Arg {
     /// The register's name, or an argument's in a body.
@@ -94,7 +98,8 @@ pub struct Arg {
     pub at: u32,
 }
 
-/// A call: of `U`, `CX`, `barrier` or a gate.
+/// A call: of `U`, `CX`, `barrier` or a gate. All fields are plain data, but that each angle is an `Expr`, which keeps the
+/// rules of an expression.
 #[derive(Debug, Drop)]
 pub struct BodyOp {
     /// `U`, `CX`, `barrier` or the gate's name.
@@ -107,7 +112,8 @@ pub struct BodyOp {
     pub args: List<Arg>,
 }
 
-/// A statement.
+/// A statement. All fields are plain data: texts, sizes and offsets as they stand in the source, which no type bounds
+/// further. Only the angles of calls, in `call` and in `body`, are of a type that keeps a rule, `Expr`.
 #[derive(Debug, Drop)]
 pub enum Stmt {
     /// The version, which opens a source. The offset is that of the number.

@@ -1,12 +1,20 @@
-use Rattle.std.proofs.Common.{◌≡◌, ◌-◌, length, Ok, ap, subst, arith, length-drop}
+use Rattle.std.proofs.Common.{◌≡◌, ◌-◌, length, Ok, sym as flip, ap, subst, arith, length-drop}
 use Rattle.std.proofs.lemmas.Result.{err_from_is_err_and}
 use Rattle.std.proofs.lemmas.List.{take_rest}
 use Rattle.qasm_parse.specs.Gives.{Fails}
+use Rattle.qasm_parse.specs.Numbers.{AreSpelt}
 use Rattle.qasm_parse.specs.Symbols.{lexemes_of}
 use Rattle.qasm_parse.specs.Statements.{reading_at}
 use Rattle.qasm_parse.proofs.AnswerLemmas.{answer_ok, answer_fails, slice_from}
 use Rattle.qasm_parse.proofs.LoopLemmas.{length-lexemes_of}
+use Rattle.qasm_parse.proofs.SpeltLemmas.{spelt_drop}
 use Rattle.qasm_parse.proofs.reader.answer.Goals as goal
+
+pub read_at-requires : goal.read_at-requires
+read_at-requires c =
+    let source = c.args.source.now in
+    let tokens = c.args.tokens.now in
+    subst AreSpelt (flip (slice_from source c.args.from tokens)) (spelt_drop c.args.from (lexemes_of source tokens) c.requires.spelt)
 
 pub returns-in_err-statement : goal.returns-in_err-statement
 returns-in_err-statement c =

@@ -1,7 +1,9 @@
-use Rattle.std.proofs.Common.{length, ap, subst, arith}
+use Rattle.std.proofs.Common.{length, sym as flip, ap, subst, arith}
 use Rattle.qasm_parse.specs.Symbols.{lexemes_of}
+use Rattle.qasm_parse.specs.Numbers.{AreSpelt}
 use Rattle.qasm_parse.specs.Statements.{IsAnswer}
 use Rattle.qasm_parse.proofs.AnswerLemmas.{answer_read, answer_fault, answer_every, answer_refused, few_tokens}
+use Rattle.qasm_parse.proofs.TokenLemmas.{tokens_spelt}
 use Rattle.qasm_parse.proofs.reader.statement.Goals as goal
 use Rattle.qasm_parse.proofs.reader.statement.Goals.{After-answer}
 
@@ -14,6 +16,10 @@ answer-requires-clause-few c =
 
 pub answer-requires-clause-place : goal.answer-requires-clause-place
 answer-requires-clause-place c = omega (arith, c.requires.place, ap length c.all.ensures.tokens)
+
+pub answer-requires-clause-spelt : goal.answer-requires-clause-spelt
+answer-requires-clause-spelt c =
+    subst (λ ts. AreSpelt (lexemes_of c.args.source.now ts)) (flip c.all.ensures.tokens) (tokens_spelt c.args.source.now c.args.tokens.now c.requires.lexed)
 
 answered : (c : After-answer) → IsAnswer (lexemes_of c.args.source.now c.args.tokens.now.tokens) c.args.from (length c.args.source.now) c.answer.result
 answered c =
