@@ -1,6 +1,6 @@
 #!/usr/bin/env python3
-"""The text that a source of the first form compiles to on the tiny card, worked out anew from the rules in docs/,
-in another language and by another hand than the compiler. Prints it to standard output.
+"""The text that a source of registers and CX lines compiles to on the tiny card, worked out anew from the rules in
+docs/, in another language and by another hand than the compiler. Prints it to standard output.
 
     plan.py FILE          the text for a source
     plan.py --make N SEED  a source with N pairs, drawn by the seed
@@ -68,18 +68,41 @@ def plan(qubits, pairs):
         yield timed({"type": "1qGate", "gates": gates}, ONE * len(gates))
 
 
+def drawn(pairs, draw):
+    """A source of four qubits in one to five registers, some of size 0, with blanks and comments between its tokens."""
+    sizes = []
+    while sum(sizes) < 4:
+        sizes.append(draw.randint(0, 4 - sum(sizes)))
+    names = [f"r{i}_" + draw.choice(["", "A", "q0"]) for i in range(len(sizes))]
+    cells = [f"{name} [ {i} ]" for name, size in zip(names, sizes) for i in range(size)]
+    lines = ["OPENQASM 2.0 ;"] + [f"qreg {name} [ {size} ] ;" for name, size in zip(names, sizes)]
+    for _ in range(pairs):
+        control, target = draw.sample(cells, 2)
+        lines.append(f"CX {control} , {target} ;")
+    blanks = ["", " ", "\t", "\r\n", " // CX a[0],b[0];\n"]
+    for line in lines:
+        first, *words = line.split()
+        yield first + " " + "".join(draw.choice(blanks) + word for word in words) + draw.choice(blanks)
+
+
+def read(text):
+    """The number of qubits and the pairs."""
+    text = re.sub(r"//[^\n]*", "", text)
+    first, qubits, pairs = {}, 0, []
+    for statement in text.split(";"):
+        words = re.findall(r"[A-Za-z0-9_.]+", statement)
+        if words[:1] == ["qreg"]:
+            first[words[1]], qubits = qubits, qubits + int(words[2])
+        if words[:1] == ["CX"]:
+            pairs.append((first[words[1]] + int(words[2]), first[words[3]] + int(words[4])))
+    return qubits, pairs
+
+
 def main():
     if sys.argv[1] == "--make":
-        draw = random.Random(int(sys.argv[3]))
-        print("OPENQASM 2.0;\nqreg q[4];")
-        for _ in range(int(sys.argv[2])):
-            control, target = draw.sample(range(4), 2)
-            print(f"CX q[{control}],q[{target}];")
+        sys.stdout.write("".join(drawn(int(sys.argv[2]), random.Random(int(sys.argv[3])))))
         return
-    text = open(sys.argv[1]).read()
-    qubits = int(re.search(r"qreg q\[(\d+)\];", text).group(1))
-    pairs = [(int(a), int(b)) for a, b in re.findall(r"CX q\[(\d+)\],q\[(\d+)\];", text)]
-    for line in plan(qubits, pairs):
+    for line in plan(*read(open(sys.argv[1], newline="").read())):
         print(json.dumps(line, sort_keys=True, separators=(",", ":")))
 
 

@@ -6,19 +6,22 @@ use Rattle.zac_io.specs.Outside.{NamedFiles, Holds, IsLonger, Rose, Appends, App
 use Rattle.zac_flow.specs.Answers.{Explains, Cause, IsSource, IsLineOf, Tells, Deserves, IsExact, RisesAt, source_limit}
 use Rattle.zac_flow.specs.Ends.{status_of, refusal_line}
 use Rattle.zac_flow.specs.Told.{HasShelfCause, HasSinkCause}
-use Rattle.zac_flow.specs.FirstForm.{HasFirstForm}
+use Rattle.qasm_parse.specs.declared.stmt.Stmt.{Stmt}
+use Rattle.zac_flow.specs.Program.{qubits_of}
+use Rattle.zac_flow.specs.Source.{IsAccepted, IsRefusedAt}
+use Rattle.zac_flow.specs.declared.source_fault.Refusal.{Refusal}
 use Rattle.zac_flow.specs.declared.status.Fault.{Fault}
 use Rattle.zac_flow.specs.declared.status.Fault.TheVariants as fault
 use Rattle.zac_flow.specs.declared.status.Status.{Status}
 use Rattle.zac_flow.specs.declared.status.Status.TheVariants.{Done, SourceRefused, Usage, ReadFault, WriteFault, NoMemory, TooManyQubits, TooLong}
-use Rattle.zac_flow.proofs.FirstForms.{one_first_form}
+use Rattle.zac_flow.proofs.Reading.{accepted_once, accepted_or_refused}
 
 -- the line of a refusal is that of its status
 line_of : (files : Option NamedFiles) (name : List ℕ) (old new : Option (List ℕ)) (f : Fault) → Explains files name old new f → IsLineOf files (Some name) (status_of f) (refusal_line f)
 line_of files name old new fault.Usage h = absurd h
 line_of files name old new fault.Read h = refl
 line_of files name old new fault.Long h = refl
-line_of files name old new fault.Form h = refl
+line_of files name old new (fault.Source k at) h = (k, at, h.0, refl)
 line_of files name old new (fault.Qubits n s) h = (n, h.0, ap (λ m. refusal_line (fault.Qubits n m)) h.1)
 line_of files name old new fault.Write h = refl
 line_of files name old new fault.Memory h = refl
@@ -47,41 +50,41 @@ deserves_long bytes ReadFault long d = absurd d
 deserves_long bytes WriteFault long d = absurd d
 deserves_long bytes NoMemory long d = absurd d
 
-deserves_refusal : (bytes : List ℕ) (deserved : Status) → length bytes ≤ source_limit → ((n : ℕ) (ps : List (ℕ × ℕ)) → ¬ HasFirstForm bytes n ps) → Deserves bytes deserved → SourceRefused ≡ deserved
-deserves_refusal bytes TooLong short none d = absurd (omega (arith, d))
-deserves_refusal bytes SourceRefused short none d = refl
-deserves_refusal bytes TooManyQubits short none d = absurd (none d.1.0 d.1.1 d.1.2)
-deserves_refusal bytes Done short none d = absurd (none d.1.0 d.1.1 d.1.2)
-deserves_refusal bytes Usage short none d = absurd d
-deserves_refusal bytes ReadFault short none d = absurd d
-deserves_refusal bytes WriteFault short none d = absurd d
-deserves_refusal bytes NoMemory short none d = absurd d
+deserves_refusal : (bytes : List ℕ) (deserved : Status) → length bytes ≤ source_limit → (k : Refusal) (at : ℕ) → IsRefusedAt bytes k at → Deserves bytes deserved → SourceRefused ≡ deserved
+deserves_refusal bytes TooLong short k at refused d = absurd (omega (arith, d))
+deserves_refusal bytes SourceRefused short k at refused d = refl
+deserves_refusal bytes TooManyQubits short k at refused d = absurd (accepted_or_refused bytes d.1.0 d.1.1 k at refused)
+deserves_refusal bytes Done short k at refused d = absurd (accepted_or_refused bytes d.1.0 d.1.1 k at refused)
+deserves_refusal bytes Usage short k at refused d = absurd d
+deserves_refusal bytes ReadFault short k at refused d = absurd d
+deserves_refusal bytes WriteFault short k at refused d = absurd d
+deserves_refusal bytes NoMemory short k at refused d = absurd d
 
-deserves_too_many : (bytes : List ℕ) (deserved : Status) (n : ℕ) (ps : List (ℕ × ℕ)) → length bytes ≤ source_limit → HasFirstForm bytes n ps → storage_count tiny_architecture < n → Deserves bytes deserved → TooManyQubits ≡ deserved
-deserves_too_many bytes TooLong n ps short form many d = absurd (omega (arith, d))
-deserves_too_many bytes SourceRefused n ps short form many d = absurd (d.1 n ps form)
-deserves_too_many bytes TooManyQubits n ps short form many d = refl
-deserves_too_many bytes Done n ps short form many d = absurd (omega (arith, (one_first_form bytes n d.1.0 ps d.1.1 form d.1.2).0, d.1.3, many))
-deserves_too_many bytes Usage n ps short form many d = absurd d
-deserves_too_many bytes ReadFault n ps short form many d = absurd d
-deserves_too_many bytes WriteFault n ps short form many d = absurd d
-deserves_too_many bytes NoMemory n ps short form many d = absurd d
+deserves_too_many : (bytes : List ℕ) (deserved : Status) (ss : List Stmt) → length bytes ≤ source_limit → IsAccepted bytes ss → storage_count tiny_architecture < qubits_of ss → Deserves bytes deserved → TooManyQubits ≡ deserved
+deserves_too_many bytes TooLong ss short form many d = absurd (omega (arith, d))
+deserves_too_many bytes SourceRefused ss short form many d = absurd (accepted_or_refused bytes ss form d.1.0 d.1.1 d.1.2)
+deserves_too_many bytes TooManyQubits ss short form many d = refl
+deserves_too_many bytes Done ss short form many d = absurd (omega (arith, ap qubits_of (accepted_once bytes ss d.1.0 form d.1.1), d.1.2, many))
+deserves_too_many bytes Usage ss short form many d = absurd d
+deserves_too_many bytes ReadFault ss short form many d = absurd d
+deserves_too_many bytes WriteFault ss short form many d = absurd d
+deserves_too_many bytes NoMemory ss short form many d = absurd d
 
-deserves_done : (bytes : List ℕ) (deserved : Status) (n : ℕ) (ps : List (ℕ × ℕ)) → length bytes ≤ source_limit → HasFirstForm bytes n ps → n ≤ storage_count tiny_architecture → Deserves bytes deserved → Done ≡ deserved
-deserves_done bytes TooLong n ps short form fits d = absurd (omega (arith, d))
-deserves_done bytes SourceRefused n ps short form fits d = absurd (d.1 n ps form)
-deserves_done bytes TooManyQubits n ps short form fits d = absurd (omega (arith, (one_first_form bytes n d.1.0 ps d.1.1 form d.1.2).0, d.1.3, fits))
-deserves_done bytes Done n ps short form fits d = refl
-deserves_done bytes Usage n ps short form fits d = absurd d
-deserves_done bytes ReadFault n ps short form fits d = absurd d
-deserves_done bytes WriteFault n ps short form fits d = absurd d
-deserves_done bytes NoMemory n ps short form fits d = absurd d
+deserves_done : (bytes : List ℕ) (deserved : Status) (ss : List Stmt) → length bytes ≤ source_limit → IsAccepted bytes ss → qubits_of ss ≤ storage_count tiny_architecture → Deserves bytes deserved → Done ≡ deserved
+deserves_done bytes TooLong ss short form fits d = absurd (omega (arith, d))
+deserves_done bytes SourceRefused ss short form fits d = absurd (accepted_or_refused bytes ss form d.1.0 d.1.1 d.1.2)
+deserves_done bytes TooManyQubits ss short form fits d = absurd (omega (arith, ap qubits_of (accepted_once bytes ss d.1.0 form d.1.1), d.1.2, fits))
+deserves_done bytes Done ss short form fits d = refl
+deserves_done bytes Usage ss short form fits d = absurd d
+deserves_done bytes ReadFault ss short form fits d = absurd d
+deserves_done bytes WriteFault ss short form fits d = absurd d
+deserves_done bytes NoMemory ss short form fits d = absurd d
 
 -- the bytes of a source are those of the file
-source_is : (file : NamedFiles) (text bytes : List ℕ) (n : ℕ) (ps : List (ℕ × ℕ)) → file text ≡ Some bytes → IsSource (Some file) text n ps → (length bytes ≤ source_limit) × HasFirstForm bytes n ps
-source_is file text bytes n ps is h =
+source_is : (file : NamedFiles) (text bytes : List ℕ) (ss : List Stmt) → file text ≡ Some bytes → IsSource (Some file) text ss → (length bytes ≤ source_limit) × IsAccepted bytes ss
+source_is file text bytes ss is h =
     let same = held_bytes file text bytes h.bytes is h.held in
-    (subst (λ (l : List ℕ). length l ≤ source_limit) same h.short, subst (λ (l : List ℕ). HasFirstForm l n ps) same h.form)
+    (subst (λ (l : List ℕ). length l ≤ source_limit) same h.short, subst (λ (l : List ℕ). IsAccepted l ss) same h.accepted)
 
 -- the status of a run with such a cause is the one that the file deserves
 exact_of : (file : NamedFiles) (text bytes : List ℕ) (old new : Option (List ℕ)) (status deserved : Status) → file text ≡ Some bytes →
@@ -92,16 +95,17 @@ exact_of file text bytes old new WriteFault deserved is h read write d = absurd 
 exact_of file text bytes old new NoMemory deserved is h read write d = inr refl
 exact_of file text bytes old new TooLong deserved is h read write d = inl (deserves_long bytes deserved (longer file text bytes is h.0) d)
 exact_of file text bytes old new SourceRefused deserved is h read write d =
-    let same = held_bytes file text bytes h.0.bytes is h.0.held in
-    inl (deserves_refusal bytes deserved (subst (λ (l : List ℕ). length l ≤ source_limit) same h.0.short)
-    (λ n ps form. h.0.none n ps (subst (λ (l : List ℕ). HasFirstForm l n ps) (sym same) form)) d)
+    let refused = h.0.2 in
+    let same = held_bytes file text bytes refused.bytes is refused.held in
+    inl (deserves_refusal bytes deserved (subst (λ (l : List ℕ). length l ≤ source_limit) same refused.short)
+    h.0.0 h.0.1 (subst (λ (l : List ℕ). IsRefusedAt l h.0.0 h.0.1) same refused.refused) d)
 exact_of file text bytes old new TooManyQubits deserved is h read write d =
     let many = h.0.1 in
-    let source = source_is file text bytes h.0.0 many.pairs is many.source in
-    inl (deserves_too_many bytes deserved h.0.0 many.pairs source.0 source.1 many.too_many d)
+    let source = source_is file text bytes many.statements is many.source in
+    inl (deserves_too_many bytes deserved many.statements source.0 source.1 (omega (arith, many.qubits_are, many.too_many)) d)
 exact_of file text bytes old new Done deserved is h read write d =
-    let source = source_is file text bytes h.compiles.qubits h.compiles.pairs is h.compiles.source in
-    inl (deserves_done bytes deserved h.compiles.qubits h.compiles.pairs source.0 source.1 h.compiles.fits d)
+    let source = source_is file text bytes h.compiles.statements is h.compiles.source in
+    inl (deserves_done bytes deserved h.compiles.statements source.0 source.1 h.compiles.fits d)
 
 pub is_exact : (files : Option NamedFiles) (name : Option (List ℕ)) (old new : Option (List ℕ)) (status : Status) →
     Cause files name old new status → status ≢ ReadFault → status ≢ WriteFault → IsExact files name status
@@ -118,7 +122,7 @@ pub cause_of : (files : Option NamedFiles) (name : List ℕ) (old new : Option (
 cause_of files name old new fault.Usage h = h
 cause_of files name old new fault.Read h = h
 cause_of files name old new fault.Long h = h
-cause_of files name old new fault.Form h = h
+cause_of files name old new (fault.Source k at) h = ((k, at, h.0), h.1)
 cause_of files name old new (fault.Qubits n s) h = ((n, h.0), h.2)
 cause_of files name old new fault.Write h = h
 cause_of files name old new fault.Memory h = h
@@ -127,7 +131,7 @@ pub rises_at_read : (f : Fault) (before now : ℕ) → HasShelfCause (Err f) bef
 rises_at_read fault.Usage before now h e = cc
 rises_at_read fault.Read before now h e = h
 rises_at_read fault.Long before now h e = cc
-rises_at_read fault.Form before now h e = cc
+rises_at_read (fault.Source k at) before now h e = cc
 rises_at_read (fault.Qubits n s) before now h e = cc
 rises_at_read fault.Write before now h e = cc
 rises_at_read fault.Memory before now h e = cc
@@ -136,7 +140,7 @@ pub rises_at_write : (f : Fault) (before now : ℕ) → HasSinkCause (Err f) bef
 rises_at_write fault.Usage before now h e = cc
 rises_at_write fault.Read before now h e = cc
 rises_at_write fault.Long before now h e = cc
-rises_at_write fault.Form before now h e = cc
+rises_at_write (fault.Source k at) before now h e = cc
 rises_at_write (fault.Qubits n s) before now h e = cc
 rises_at_write fault.Write before now h e = h
 rises_at_write fault.Memory before now h e = cc

@@ -8,7 +8,7 @@ use Rattle.zac_flow.specs.declared.status.Fault.TheVariants as fault
 
 pub explains_source : (files : Option NamedFiles) (name : List ℕ) (out : Option (List ℕ)) (bytes : List ℕ) (f : Fault) →
     Holds files name bytes → length bytes ≤ source_limit → ExplainsSource bytes f → Explains files name out out f
-explains_source files name out bytes fault.Form held short none = (record { bytes = bytes; held = held; short = short; none = none }, refl)
+explains_source files name out bytes (fault.Source k at) held short refused = (record { bytes = bytes; held = held; short = short; refused = refused }, refl)
 explains_source files name out bytes fault.Memory held short none = inr refl
 explains_source files name out bytes fault.Usage held short none = none
 explains_source files name out bytes fault.Read held short none = absurd none

@@ -1,6 +1,7 @@
-pub mod FirstNumbers
-pub mod FirstForms
-pub mod FirstOps
+pub mod Keeping
+pub mod Reading
+pub mod OneRefusal
+pub mod PairOps
 pub mod Explaining
 pub mod Telling
 pub mod Ending

@@ -7,10 +7,13 @@ use Rattle.zac_plan.specs.Performs.{Performs}
 use Rattle.zair_form.specs.declared.program.Instr.{Instr}
 use Rattle.zair_text.specs.Lines.{program_text, program_lines}
 use Rattle.zair_text.specs.Writing.{AppendsLines}
-use Rattle.zac_flow.specs.FirstForm.{HasFirstForm, native_circuit}
+use Rattle.qasm_parse.specs.declared.stmt.Stmt.{Stmt}
+use Rattle.zac_flow.specs.Program.{qubits_of, native_circuit}
+use Rattle.zac_flow.specs.Source.{IsAccepted, IsRefusedAt}
+use Rattle.zac_flow.specs.declared.source_fault.Refusal.{Refusal}
 use Rattle.zac_flow.specs.declared.status.Fault.{Fault}
 use Rattle.zac_flow.specs.declared.status.Fault.TheVariants as fault
-use Rattle.zac_flow.specs.Ends.{qubits_line}
+use Rattle.zac_flow.specs.Ends.{source_line, qubits_line}
 use Rattle.zac_flow.specs.declared.status.Status.{Status}
 use Rattle.zac_flow.specs.declared.status.Status.TheVariants.{Done, SourceRefused, Usage, ReadFault, WriteFault, NoMemory, TooManyQubits, TooLong}
 
@@ -18,20 +21,19 @@ use Rattle.zac_flow.specs.declared.status.Status.TheVariants.{Done, SourceRefuse
 abbrev pub source_limit : ℕ
 source_limit = 4194304
 
--- The file is a source within its limit, with so many qubits and these pairs. The card is the tiny card.
-pub record IsSource (files : Option NamedFiles) (name : List ℕ) (qubits : ℕ) (pairs : List (ℕ × ℕ)) : Type 0 where
+-- The file is a source within its limit that is accepted as these statements. The card is the tiny card.
+pub record IsSource (files : Option NamedFiles) (name : List ℕ) (statements : List Stmt) : Type 0 where
   pub bytes : List ℕ
   pub held : Holds files name bytes
   pub short : length bytes ≤ source_limit
-  pub form : HasFirstForm bytes qubits pairs
+  pub accepted : IsAccepted bytes statements
 
 -- The file is such a source, its qubits fit the storage, and the program performs it.
 pub record Compiles (files : Option NamedFiles) (name : List ℕ) (program : List Instr) : Type 0 where
-  pub qubits : ℕ
-  pub pairs : List (ℕ × ℕ)
-  pub source : IsSource files name qubits pairs
-  pub fits : qubits ≤ storage_count tiny_architecture
-  pub performs : Performs tiny_architecture (native_circuit qubits pairs) program
+  pub statements : List Stmt
+  pub source : IsSource files name statements
+  pub fits : qubits_of statements ≤ storage_count tiny_architecture
+  pub performs : Performs tiny_architecture (native_circuit statements) program
 
 -- The headline: what a command wrote is the text of one program, which performs the source.
 pub record WritesProgram (files : Option NamedFiles) (name : List ℕ) (old new : Option (List ℕ)) : Type 0 where
@@ -51,17 +53,18 @@ pub record WritesLines (files : Option NamedFiles) (name : List ℕ) (old new : 
   pub compiles : Compiles files name program
   pub text : AppendsLines old new (program_lines program)
 
--- the file is a source within its limit that has no first form
-pub record IsRefused (files : Option NamedFiles) (name : List ℕ) : Type 0 where
+-- the file is a source within its limit that is refused with this kind at this offset
+pub record IsRefused (files : Option NamedFiles) (name : List ℕ) (k : Refusal) (at : ℕ) : Type 0 where
   pub bytes : List ℕ
   pub held : Holds files name bytes
   pub short : length bytes ≤ source_limit
-  pub none : (qubits : ℕ) (pairs : List (ℕ × ℕ)) → ¬ HasFirstForm bytes qubits pairs
+  pub refused : IsRefusedAt bytes k at
 
 -- the file is a source with more qubits than the tiny card has storage traps
 pub record HasTooMany (files : Option NamedFiles) (name : List ℕ) (qubits : ℕ) : Type 0 where
-  pub pairs : List (ℕ × ℕ)
-  pub source : IsSource files name qubits pairs
+  pub statements : List Stmt
+  pub source : IsSource files name statements
+  pub qubits_are : qubits ≡ qubits_of statements
   pub too_many : storage_count tiny_architecture < qubits
 
 -- why a command on this file is refused, and what it left in out; the shelf's and the sink's own counts tell of
@@ -70,7 +73,7 @@ abbrev pub Explains : Option NamedFiles → List ℕ → Option (List ℕ) → O
 Explains files name old new fault.Usage = ⊥
 Explains files name old new fault.Read = new ≡ old
 Explains files name old new fault.Long = IsLonger files name source_limit × (new ≡ old)
-Explains files name old new fault.Form = IsRefused files name × (new ≡ old)
+Explains files name old new (fault.Source k at) = IsRefused files name k at × (new ≡ old)
 Explains files name old new (fault.Qubits n s) = HasTooMany files name n × (s ≡ storage_count tiny_architecture) × (new ≡ old)
 Explains files name old new fault.Write = WritesPrefix files name old new
 Explains files name old new fault.Memory = WritesLines files name old new ⊎ (new ≡ old)
@@ -87,7 +90,7 @@ Cause files None old new TooManyQubits = ⊥
 Cause files None old new TooLong = ⊥
 Cause files (Some name) old new Usage = ⊥
 Cause files (Some name) old new Done = WritesProgram files name old new
-Cause files (Some name) old new SourceRefused = IsRefused files name × (new ≡ old)
+Cause files (Some name) old new SourceRefused = ((k : Refusal) × (at : ℕ) × IsRefused files name k at) × (new ≡ old)
 Cause files (Some name) old new ReadFault = new ≡ old
 Cause files (Some name) old new WriteFault = WritesPrefix files name old new
 Cause files (Some name) old new NoMemory = WritesLines files name old new ⊎ (new ≡ old)
@@ -97,7 +100,8 @@ Cause files (Some name) old new TooLong = IsLonger files name source_limit × (n
 -- the line that a run tells for its status: none after Done
 abbrev pub IsLineOf : Option NamedFiles → Option (List ℕ) → Status → List ℕ → Type 0
 IsLineOf files name Done line = line ≡ []
-IsLineOf files name SourceRefused line = line ≡ codes "source refused: Form\n"
+IsLineOf files name SourceRefused line =
+    (k : Refusal) × (at : ℕ) × IfSome name (λ file. IsRefused files file k at) × (line ≡ source_line k at)
 IsLineOf files name Usage line = line ≡ codes "usage: compile CARD QASM\n"
 IsLineOf files name ReadFault line = line ≡ codes "read fault: source\n"
 IsLineOf files name WriteFault line = line ≡ codes "write fault\n"
@@ -121,11 +125,11 @@ pub record RisesAt (which status : Status) (before now : ℕ) : Type 0 where
 -- a file of these bytes deserves this status, where no call fails and memory is found
 abbrev pub Deserves : List ℕ → Status → Type 0
 Deserves bytes TooLong = source_limit < length bytes
-Deserves bytes SourceRefused = (length bytes ≤ source_limit) × ((qubits : ℕ) (pairs : List (ℕ × ℕ)) → ¬ HasFirstForm bytes qubits pairs)
+Deserves bytes SourceRefused = (length bytes ≤ source_limit) × ((k : Refusal) × (at : ℕ) × IsRefusedAt bytes k at)
 Deserves bytes TooManyQubits =
-    (length bytes ≤ source_limit) × ((qubits : ℕ) × (pairs : List (ℕ × ℕ)) × HasFirstForm bytes qubits pairs × (storage_count tiny_architecture < qubits))
+    (length bytes ≤ source_limit) × ((statements : List Stmt) × IsAccepted bytes statements × (storage_count tiny_architecture < qubits_of statements))
 Deserves bytes Done =
-    (length bytes ≤ source_limit) × ((qubits : ℕ) × (pairs : List (ℕ × ℕ)) × HasFirstForm bytes qubits pairs × (qubits ≤ storage_count tiny_architecture))
+    (length bytes ≤ source_limit) × ((statements : List Stmt) × IsAccepted bytes statements × (qubits_of statements ≤ storage_count tiny_architecture))
 Deserves bytes Usage = ⊥
 Deserves bytes ReadFault = ⊥
 Deserves bytes WriteFault = ⊥

@@ -1,5 +1,7 @@
 -- How a command ends: its status, and the line of a refusal.
 use Rattle.std.specs.Prelude.{ℕ, List, ◌++◌, codes, decimal}
+use Rattle.zac_flow.specs.Kinds.{name_of}
+use Rattle.zac_flow.specs.declared.source_fault.Refusal.{Refusal}
 use Rattle.zac_flow.specs.declared.status.Fault.{Fault}
 use Rattle.zac_flow.specs.declared.status.Fault.TheVariants as fault
 use Rattle.zac_flow.specs.declared.status.Status.{Status}
@@ -10,7 +12,7 @@ abbrev pub status_of : Fault → Status
 status_of fault.Usage = Usage
 status_of fault.Read = ReadFault
 status_of fault.Long = TooLong
-status_of fault.Form = SourceRefused
+status_of (fault.Source k at) = SourceRefused
 status_of (fault.Qubits n s) = TooManyQubits
 status_of fault.Write = WriteFault
 status_of fault.Memory = NoMemory
@@ -19,12 +21,16 @@ status_of fault.Memory = NoMemory
 abbrev pub qubits_line : ℕ → ℕ → List ℕ
 qubits_line n s = codes "too many qubits: " ++ (decimal n ++ (codes " for " ++ (decimal s ++ codes " traps\n")))
 
+-- a refusal of this kind at this offset
+abbrev pub source_line : Refusal → ℕ → List ℕ
+source_line k at = codes "source refused: " ++ (name_of k ++ (codes " at " ++ (decimal at ++ codes "\n")))
+
 -- its line
 abbrev pub refusal_line : Fault → List ℕ
 refusal_line fault.Usage = codes "usage: compile CARD QASM\n"
 refusal_line fault.Read = codes "read fault: source\n"
 refusal_line fault.Long = codes "too long: source\n"
-refusal_line fault.Form = codes "source refused: Form\n"
+refusal_line (fault.Source k at) = source_line k at
 refusal_line (fault.Qubits n s) = qubits_line n s
 refusal_line fault.Write = codes "write fault\n"
 refusal_line fault.Memory = codes "out of memory\n"

@@ -55,10 +55,15 @@ fn compile_file<S: Shelf, K: Sink>(
 /// `Done`: `out` gained the text of one program that performs the file's source on the tiny card, in every order
 /// that its times allow. `Usage` comes exactly where the words are no command. `ReadFault` comes only where a call
 /// on the shelf failed, `TooLong` exactly where the file has more than 4,194,304 bytes and no call failed,
-/// `SourceRefused` exactly where the file isn't of the first form, `TooManyQubits` exactly where its qubits exceed
-/// the storage traps, `WriteFault` only where a call on `out` failed, behind a prefix of the text. Want of memory
-/// may come always, behind whole lines. Every other refusal leaves `out` as it was. A refusal's line goes to `err`,
-/// whose failures change no status. The shelf is asked for the named file alone.
+/// `SourceRefused` exactly where the file's source is refused, with the kind and the offset of the refusal in the line
+/// on `err`, `TooManyQubits` exactly where an accepted source has more qubits than storage traps, `WriteFault` only
+/// where a call on `out` failed, behind a prefix of the text. Want of memory may come always, behind whole lines. Every
+/// other refusal leaves `out` as it was. A refusal's line goes to `err`, whose failures change no status. The shelf is
+/// asked for the named file alone.
+///
+/// A source is accepted where its tokens fall into statements, the first of them the version, and none is refused
+/// behind those before it. Tokens are judged first, and then each statement in turn: its syntax, and then whether the
+/// version is 2.0, whether the plan can carry the statement, and whether its names, indices and qubits are right.
 pub fn run<S: Shelf, K: Sink, E: Sink>(
     alloc: Global,
     words: &[String],

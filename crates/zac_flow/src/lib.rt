@@ -1,9 +1,16 @@
 //! The top call: from the words of a command to its answer.
 #![tactic(auto)]
 
-mod first_form;
+mod circuit;
+mod extent;
 mod flow;
+mod form;
+mod judge;
+pub mod laws;
 mod refusal;
+mod registers;
+mod source;
+mod source_fault;
 mod stages;
 mod status;
 mod words;

@@ -2,8 +2,9 @@
 
 ghost use Rattle.std.specs.Prelude.{◌≡◌, codes, decimal};
 ghost use Rattle.zac_io.specs.Outside.{Writes, HasCause};
-ghost use Rattle.zac_flow.specs.Ends.{refusal_line, qubits_line};
+ghost use Rattle.zac_flow.specs.Ends.{refusal_line, source_line, qubits_line};
 
+use crate::source_fault::Refusal;
 use crate::status::Fault;
 use itoa::Buffer;
 use zac_io::{Failed, Sink};
@@ -18,12 +19,25 @@ impl Fault {
             Fault::Usage => err.write(b"usage: compile CARD QASM\n"),
             Fault::Read => err.write(b"read fault: source\n"),
             Fault::Long => err.write(b"too long: source\n"),
-            Fault::Form => err.write(b"source refused: Form\n"),
+            Fault::Source { kind, at } => tell_source(*kind, *at, err),
             Fault::Qubits { qubits, traps } => tell_qubits(*qubits, *traps, err),
             Fault::Write => err.write(b"write fault\n"),
             Fault::Memory => err.write(b"out of memory\n"),
         }
     }
+}
+
+/// Writes that the source is refused with this kind at this offset.
+fn tell_source<E: Sink>(kind: Refusal, at: u32, err: &mut E) -> Result<(), Failed>
+    ensures line { Writes (E.written err.old) (E.written err.new) (source_line kind at) result }
+    ensures cause { HasCause result (E.faults err.old) (E.faults err.new) }
+{
+    err.write(b"source refused: ")?;
+    err.write(kind.name().as_bytes())?;
+    err.write(b" at ")?;
+    err.write(Buffer::new().format(at).as_bytes())?;
+    err.write(b"\n")?;
+    Ok(())
 }
 
 /// Writes that there are so many qubits for so many traps.

@@ -3,8 +3,12 @@
 ghost use Rattle.std.specs.Prelude.{◌≡◌, ◌≤◌, IfOk, IfErr, length};
 ghost use Rattle.zac_flow.specs.Stages.{IsCircuitOf, ExplainsSource, ExplainsPlan, IsProgramOf};
 
-use crate::first_form::{circuit_of, read_first_form};
+use crate::circuit::circuit_of;
+use crate::source::read_source;
+use crate::source_fault::{Refusal, SourceFault};
 use crate::status::Fault;
+use qasm_lex::LexFault;
+use qasm_parse::SyntaxFault;
 use std::alloc::Global;
 use zac_arch::Card;
 use zac_gates::{Circuit, Memory};
@@ -50,6 +54,54 @@ impl From<ReadFault> for Fault {
     }
 }
 
+impl From<LexFault> for Fault {
+    ghost use Rattle.std.specs.Prelude.{◌≡◌};
+    ghost use Rattle.zac_flow.specs.Stages.{of_lexing};
+
+    ghost from_gives = { λ e f. f ≡ of_lexing e };
+
+    fn from(e: LexFault) -> Fault {
+        match e {
+            LexFault::Memory => Fault::Memory,
+            LexFault::At { at } => Fault::Source {
+                kind: Refusal::Lex,
+                at,
+            },
+        }
+    }
+}
+
+impl From<SyntaxFault> for Fault {
+    ghost use Rattle.std.specs.Prelude.{◌≡◌};
+    ghost use Rattle.zac_flow.specs.Stages.{of_parsing};
+
+    ghost from_gives = { λ e f. f ≡ of_parsing e };
+
+    fn from(e: SyntaxFault) -> Fault {
+        match e {
+            SyntaxFault::Memory => Fault::Memory,
+            SyntaxFault::At { at } => Fault::Source {
+                kind: Refusal::Syntax,
+                at,
+            },
+        }
+    }
+}
+
+impl From<SourceFault> for Fault {
+    ghost use Rattle.std.specs.Prelude.{◌≡◌};
+    ghost use Rattle.zac_flow.specs.Stages.{of_judging};
+
+    ghost from_gives = { λ e f. f ≡ of_judging e };
+
+    fn from(e: SourceFault) -> Fault {
+        Fault::Source {
+            kind: e.kind,
+            at: e.at,
+        }
+    }
+}
+
 impl From<PlanFault> for Fault {
     ghost use Rattle.std.specs.Prelude.{◌≡◌};
     ghost use Rattle.zac_flow.specs.Stages.{of_planning};
@@ -80,17 +132,14 @@ impl From<WriteFault> for Fault {
 
 /// The native circuit of a source.
 pub fn circuit_from(alloc: Global, source: &[u8]) -> Result<Circuit, Fault>
+    requires { length source.now ≤ 4194304 }
     ensures ok { IfOk result (λ circuit. IsCircuitOf source.now circuit) }
     ensures few { IfOk result (λ circuit. length circuit.ops ≤ 786432) }
     ensures err { IfErr result (ExplainsSource source.now) }
 {
-    match read_first_form(alloc, source)? {
-        None => Err(Fault::Form),
-        Some(form) => {
-            let circuit = circuit_of(alloc, form)?;
-            Ok(circuit)
-        }
-    }
+    let registers = read_source(alloc, source)?;
+    let circuit = circuit_of(alloc, &registers)?;
+    Ok(circuit)
 }
 
 /// The program of a circuit on the tiny card.

@@ -2,6 +2,8 @@
 
 ghost use Rattle.std.specs.Prelude.{◌≡◌};
 
+use crate::source_fault::Refusal;
+
 /// The status with which a command ends.
 #[derive(Clone, Copy, Debug, PartialEq, Eq)]
 pub enum Status {
@@ -52,8 +54,8 @@ pub enum Fault {
     Read,
     /// The source is longer than its limit.
     Long,
-    /// The source isn't of the first form.
-    Form,
+    /// The source is refused, with this kind at this offset.
+    Source { kind: Refusal, at: u32 },
     /// So many qubits for so many storage traps.
     Qubits { qubits: u32, traps: u32 },
     /// The output could not be written.
@@ -73,7 +75,7 @@ impl Fault {
             Fault::Usage => Status::Usage,
             Fault::Read => Status::ReadFault,
             Fault::Long => Status::TooLong,
-            Fault::Form => Status::SourceRefused,
+            Fault::Source { .. } => Status::SourceRefused,
             Fault::Qubits { .. } => Status::TooManyQubits,
             Fault::Write => Status::WriteFault,
             Fault::Memory => Status::NoMemory,

@@ -154,11 +154,13 @@ fn counts_the_qubits(rt: HostRuntime) -> Result<(), Fail> {
             Status::TooManyQubits,
             "too many qubits: 4096 for 4 traps\n",
         ),
+        ("qreg q[0];\n", 0, Status::Done, ""),
+        ("qreg q[1];\nqreg r[3];\n", 0, Status::Done, ""),
         (
-            "qreg q[0];\n",
-            0,
-            Status::SourceRefused,
-            "source refused: Form\n",
+            "qreg q[3];\nqreg r[2];\n",
+            1,
+            Status::TooManyQubits,
+            "too many qubits: 5 for 4 traps\n",
         ),
     ];
     for (register, pairs, status, told) in rows {
@@ -179,10 +181,87 @@ fn counts_the_qubits(rt: HostRuntime) -> Result<(), Fail> {
     Ok(())
 }
 
+// Each row stands behind the version line, of 14 bytes.
+#[test]
+fn tells_why_a_source_is_refused(rt: HostRuntime) -> Result<(), Fail> {
+    let rows = [
+        ("qreg q[2];\nCX q[0] q[1];", "Syntax at 33"),
+        ("qreg q[2];\nCX q[0],q[1]; $", "Lex at 39"),
+        ("qreg q[2];\ncreg c[2];", "Later at 25"),
+        ("qreg q[2];\nCX q,q;", "Later at 25"),
+        ("qreg q[2];\n  U(0,0,0) q[0];", "Later at 27"),
+        ("qreg q[2];\nif(c==1) CX q[0],q[1];", "Later at 25"),
+        ("qreg q[4096];qreg r[1];", "Later at 27"),
+        ("qreg q[4096];qreg q[1];", "Later at 27"),
+        ("qreg q[2];qreg q[1];", "Redeclared at 29"),
+        ("qreg q[2];CX r[0],q[1];", "NotDeclared at 27"),
+        ("qreg q[2];CX q[2],r[0];", "NotDeclared at 32"),
+        ("qreg q[2];CX q[2],q[3];", "Index at 27"),
+        ("qreg q[2];CX q[1],q[2];", "Index at 32"),
+        ("qreg q[0];CX q[0],q[0];", "Index at 27"),
+        ("qreg q[2];CX q[1],q[1];", "Repeated at 24"),
+        ("creg c[2];\nqreg q[2]", "Later at 14"),
+        ("qreg q[2]", "Syntax at 23"),
+        ("qreg q[2];OPENQASM 2.0;", "Syntax at 24"),
+    ];
+    for (rest, refusal) in rows {
+        let source = format!(in rt.alloc(); "OPENQASM 2.0;\n{rest}")?;
+        let told = format!(in rt.alloc(); "source refused: {refusal}\n")?;
+        let source = bytes(rt.alloc(), source.as_bytes())?;
+        let ended = end_of(rt.alloc(), "compile @tiny f", source, NONE)?;
+        assert_eq!(rt; ended.status, Status::SourceRefused, "{rest}");
+        assert_eq!(rt; ended.out.bytes(), b"".as_slice(), "{rest}");
+        assert_eq!(rt; ended.err.bytes(), told.as_bytes(), "{rest}");
+    }
+    for (source, refusal) in [
+        ("", "Syntax at 0"),
+        ("qreg q[2];", "Syntax at 0"),
+        ("// \n", "Syntax at 4"),
+        ("OPENQASM 2;", "Version at 9"),
+        ("OPENQASM 3.0; $", "Lex at 14"),
+    ] {
+        let told = format!(in rt.alloc(); "source refused: {refusal}\n")?;
+        let text = bytes(rt.alloc(), source.as_bytes())?;
+        let ended = end_of(rt.alloc(), "compile @tiny f", text, NONE)?;
+        assert_eq!(rt; ended.status, Status::SourceRefused, "{source}");
+        assert_eq!(rt; ended.err.bytes(), told.as_bytes(), "{source}");
+    }
+    Ok(())
+}
+
+// Blanks, comments and line ends change nothing, and several registers are numbered in a row.
+#[test]
+fn reads_sources_of_one_meaning(rt: HostRuntime) -> Result<(), Fail> {
+    let text = first_lines(rt.alloc(), 7)?;
+    for source in [
+        PAIR,
+        "OPENQASM 2.0;qreg q[2];CX q[0],q[1];",
+        "// a pair\r\n OPENQASM\t2.0 ;\r\nqreg q [ 2 ] ;// two\r\nCX q[0] , q[1];\r\n",
+        "OPENQASM 2.0;\nqreg a[1];\nqreg none[0];\nqreg b[1];\nCX a[0],b[0];\n",
+    ] {
+        let from = bytes(rt.alloc(), source.as_bytes())?;
+        let ended = end_of(rt.alloc(), "compile @tiny f", from, NONE)?;
+        assert_eq!(rt; ended.status, Status::Done, "{source}");
+        assert_eq!(rt; ended.out.bytes(), text.as_slice(), "{source}");
+        assert_eq!(rt; ended.err.bytes(), b"".as_slice(), "{source}");
+    }
+    let version = bytes(rt.alloc(), b"OPENQASM 2.0;\n")?;
+    let ended = end_of(rt.alloc(), "compile @tiny f", version, NONE)?;
+    assert_eq!(rt; ended.status, Status::Done);
+    let empty =
+        "{\"type\":\"zair\",\"version\":1}\n{\"begin\":0,\"end\":0,\"homes\":[],\"type\":\"init\"}\n";
+    assert_eq!(rt; ended.out.bytes(), empty.as_bytes());
+    Ok(())
+}
+
 #[test]
 fn limits_the_bytes_of_a_source(rt: HostRuntime) -> Result<(), Fail> {
     let rows = [
-        (4_194_304, Status::SourceRefused, "source refused: Form\n"),
+        (
+            4_194_304,
+            Status::SourceRefused,
+            "source refused: Syntax at 4194304\n",
+        ),
         (4_194_305, Status::TooLong, "too long: source\n"),
     ];
     for (length, status, told) in rows {

@@ -1,0 +1,12 @@
+use Rattle.zac_flow.proofs.OneRefusal.{refused_once}
+use Rattle.zac_flow.proofs.Reading.{accepted_once, accepted_or_refused}
+use Rattle.zac_flow.proofs.laws.one_answer.Goals as goal
+
+pub returns-clause-one_program : goal.returns-clause-one_program
+returns-clause-one_program c = accepted_once
+
+pub returns-clause-one_refusal : goal.returns-clause-one_refusal
+returns-clause-one_refusal c = refused_once
+
+pub returns-clause-not_both : goal.returns-clause-not_both
+returns-clause-not_both c = λ source statements k at accepted refused. accepted_or_refused source statements accepted k at refused
