@@ -1,0 +1,12 @@
+pub mod TestLemmas
+pub mod LeastLemmas
+pub mod PairLemmas
+pub mod WordLemmas
+pub mod ApplicationLemmas
+pub mod KindLemmas
+pub mod TableLemmas
+pub mod ReadLemmas
+pub mod FixedLemmas
+pub mod PlaceLemmas
+pub mod ScopeLemmas
+pub mod BoundLemmas

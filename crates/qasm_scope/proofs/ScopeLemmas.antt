@@ -1,0 +1,158 @@
+-- Lemmas on statements behind one another.
+use Rattle.std.proofs.Common.{get_or, ◌≡◌, ◌≢◌, ℕ, zero, suc, inl, false, List, [], ◌∷◌, ◌++◌, length, take, slice_get, Option, Some, None, is_some, MatchOption, refl, ap, sym, subst, ◌∙◌, append_assoc, append-nil, lit<}
+use Rattle.std.proofs.lemmas.Bool.{false≢true}
+use Rattle.qasm_parse.specs.Statements.{IsStatement, FallInto}
+use Rattle.qasm_lex.specs.declared.token.Token.{Token}
+use Rattle.qasm_parse.specs.Symbols.{Lexeme, lexemes_of}
+use Rattle.qasm_parse.specs.declared.stmt.BodyOp.{BodyOp}
+use Rattle.qasm_parse.specs.declared.stmt.Stmt.{Stmt}
+use Rattle.qasm_parse.specs.declared.stmt.Stmt.TheVariants as stmt
+use Rattle.qasm_scope.specs.declared.fault.ScopeKind.{ScopeKind}
+use Rattle.qasm_scope.specs.declared.fault.ScopeKind.TheVariants as kind
+use Rattle.qasm_scope.specs.declared.gate.Target.{Target}
+use Rattle.qasm_scope.specs.declared.gate.Target.TheVariants as target
+use Rattle.qasm_scope.specs.declared.meaning.Callee.{Callee}
+use Rattle.qasm_scope.specs.declared.meaning.Callee.TheVariants as calls
+use Rattle.qasm_scope.specs.Accepted.{AreFine, IsFine, Situation, behind}
+use Rattle.qasm_scope.specs.Entering.{DeclaresNew}
+use Rattle.qasm_scope.specs.Environment.{enter, after, nothing, opening, environment}
+use Rattle.qasm_scope.specs.Names.{Environment, own_meaning, callee, target_of, value_or}
+use Rattle.qasm_scope.specs.Refusals.{Refuses}
+use Rattle.qasm_scope.specs.Scopes.{AreFineInHeader, IsFineInHeader, IsReadHeader, IsScope, bound_target, bound_targets}
+
+-- no refusal of a statement
+abbrev pub HasNoRefusal : Environment → List Stmt → Stmt → Type 0
+HasNoRefusal e before s = (k : ScopeKind) (at : ℕ) → ¬ Refuses e before s k at
+
+pub after-push : (e : Environment) (ss : List Stmt) (s : Stmt) → after e (ss ++ s ∷ []) ≡ enter (after e ss) s
+after-push e [] s = refl
+after-push e (x ∷ ss) s = after-push (enter e x) ss s
+
+pub AreFine-push : (header before ss : List Stmt) (s : Stmt) → AreFine header before ss → IsFine header (before ++ ss) s → AreFine header before (ss ++ s ∷ [])
+AreFine-push header before [] s fine here = let P : List Stmt → Type 0 = λ l. IsFine header l s in (subst P (append-nil before) here, tt)
+AreFine-push header before (x ∷ ss) s fine here =
+    let P : List Stmt → Type 0 = λ l. IsFine header l s in
+    (fine.0, AreFine-push header (before ++ x ∷ []) ss s fine.1 (subst P (sym (append_assoc before (x ∷ []) ss)) here))
+
+pub AreFineInHeader-push : (before ss : List Stmt) (s : Stmt) → AreFineInHeader before ss → IsFineInHeader (before ++ ss) s → AreFineInHeader before (ss ++ s ∷ [])
+AreFineInHeader-push before [] s fine here = let P : List Stmt → Type 0 = λ l. IsFineInHeader l s in (subst P (append-nil before) here, tt)
+AreFineInHeader-push before (x ∷ ss) s fine here =
+    let P : List Stmt → Type 0 = λ l. IsFineInHeader l s in
+    (fine.0, AreFineInHeader-push (before ++ x ∷ []) ss s fine.1 (subst P (sym (append_assoc before (x ∷ []) ss)) here))
+
+pub bound_targets-push : (e : Environment) (ss : List Stmt) (s : Stmt) → bound_targets e (ss ++ s ∷ []) ≡ bound_targets e ss ++ bound_target (after e ss) s ∷ []
+bound_targets-push e [] s = refl
+bound_targets-push e (x ∷ ss) s = ap (λ l. bound_target e x ∷ l) (bound_targets-push (enter e x) ss s)
+
+pub bound_targets-at : (e : Environment) (ss : List Stmt) (i : ℕ) (s : Stmt) → slice_get ss i ≡ Some s → slice_get (bound_targets e ss) i ≡ Some (bound_target (after e (take i ss)) s)
+bound_targets-at e [] i s h = absurd (none_is_some h)
+  where
+    none_is_some : None ≡ Some s → ⊥
+    none_is_some p = cc
+bound_targets-at e (x ∷ ss) zero s h = ap Some (ap (λ y. bound_target e y) (same h))
+  where
+    same : Some x ≡ Some s → x ≡ s
+    same p = cc
+bound_targets-at e (x ∷ ss) (suc i) s h = bound_targets-at (enter e x) ss i s h
+
+pub AreFine-at : (header before ss : List Stmt) (i : ℕ) (s : Stmt) → AreFine header before ss → slice_get ss i ≡ Some s → IsFine header (before ++ take i ss) s
+AreFine-at header before [] i s fine h = absurd (none_is_some h)
+  where
+    none_is_some : None ≡ Some s → ⊥
+    none_is_some p = cc
+AreFine-at header before (x ∷ ss) zero s fine h =
+    let P : Stmt → Type 0 = λ y. IsFine header (before ++ []) y in
+    let Q : List Stmt → Type 0 = λ l. IsFine header l x in
+    subst P (same h) (subst Q (sym (append-nil before)) fine.0)
+  where
+    same : Some x ≡ Some s → x ≡ s
+    same p = cc
+AreFine-at header before (x ∷ ss) (suc i) s fine h =
+    let P : List Stmt → Type 0 = λ l. IsFine header l s in
+    subst P (append_assoc before (x ∷ []) (take i ss)) (AreFine-at header (before ++ x ∷ []) ss i s fine.1 h)
+
+none_unless : {X : Type 0} (o : Option X) → (o ≢ None → ⊥) → o ≡ None
+none_unless None h = refl
+none_unless (Some x) h = absurd (h (λ p. apart p))
+  where
+    apart : Some x ≡ None → ⊥
+    apart p = cc
+
+some_same : {X : Type 0} {x y : X} → Some x ≡ Some y → x ≡ y
+some_same h = cc
+
+none_is_some : {X : Type 0} {x : X} → None ≡ Some x → ⊥
+none_is_some h = cc
+
+new_name : (e : Environment) (name x : List ℕ) → (own_meaning e name ≢ None → ⊥) → Some name ≡ Some x → own_meaning e x ≡ None
+new_name e name x h p = let P : List ℕ → Type 0 = λ n. own_meaning e n ≡ None in subst P (some_same p) (none_unless (own_meaning e name) h)
+
+-- a statement with no refusal declares no name that the file has declared
+pub DeclaresNew-fine : (e : Environment) (before : List Stmt) (s : Stmt) → HasNoRefusal e before s → DeclaresNew e s
+DeclaresNew-fine e before (stmt.Qreg name size at) fine = λ x p. new_name e name x (λ d. fine kind.Redeclared at (inl d, refl)) p
+DeclaresNew-fine e before (stmt.Creg name size at) fine = λ x p. new_name e name x (λ d. fine kind.Redeclared at (inl d, refl)) p
+DeclaresNew-fine e before (stmt.Gate name params args body at) fine = λ x p. new_name e name x (λ d. fine kind.Redeclared at (inl d, refl)) p
+DeclaresNew-fine e before (stmt.Opaque name params args at) fine = λ x p. new_name e name x (λ d. fine kind.Redeclared at (inl d, refl)) p
+DeclaresNew-fine e before other fine = λ x p. absurd (none_is_some p)
+
+-- a call with no refusal is bound to what it names
+pub target-fine : (e : Environment) (before : List Stmt) (call : BodyOp) → HasNoRefusal e before (stmt.Call call) → Some (bound_target e (stmt.Call call)) ≡ target_of (callee e call.name)
+target-fine e before call fine = by (callee e call.name) refl
+  where
+    by : (c : Callee) → callee e call.name ≡ c → Some (value_or (target_of c) target.Barrier) ≡ target_of c
+    by calls.Unknown p = absurd (fine kind.UnknownGate call.at (0, call, lit< tt, refl, (p, refl)))
+    by calls.Opaque p = absurd (fine kind.Opaque call.at (0, call, lit< tt, refl, (p, refl)))
+    by calls.Barrier p = refl
+    by (calls.Gate t params args) p = refl
+
+-- the judgement, where the situation has another name
+pub IsFine-from : (header now_header before now : List Stmt) (e : Environment) (s : Stmt) → e ≡ environment header before → header ≡ now_header → before ≡ now → HasNoRefusal e before s → IsFine now_header now s
+IsFine-from header now_header before now e s means h b fine = λ k at refuses.
+    let P : Environment → Type 0 = λ x. Refuses x before s k at in
+    let Q : List Stmt → Type 0 = λ l. Refuses (environment now_header l) l s k at in
+    let R : List Stmt → Type 0 = λ l. Refuses (environment l before) before s k at in
+    fine k at (subst P (sym means) (subst R (sym h) (subst Q (sym b) refuses)))
+
+pub IsFine-to : (header now_header before now : List Stmt) (e : Environment) (s : Stmt) → e ≡ environment header before → header ≡ now_header → before ≡ now → IsFine now_header now s → HasNoRefusal e before s
+IsFine-to header now_header before now e s means h b fine = λ k at refuses.
+    let P : Environment → Type 0 = λ x. Refuses x before s k at in
+    let Q : List Stmt → Type 0 = λ l. Refuses (environment now_header l) l s k at in
+    let R : List Stmt → Type 0 = λ l. Refuses (environment l before) before s k at in
+    fine k at (subst Q b (subst R h (subst P means refuses)))
+
+-- no refusal was found
+pub none_found : {X : Type 0} (o : Option X) (P : Type 0) (Q : X → Type 0) → is_some o ≡ false → MatchOption o P Q → P
+none_found None P Q h m = m
+none_found (Some x) P Q h m = absurd (false≢true (sym h))
+
+-- one statement more
+pub IsScope-push : (header : List Stmt) (now : Situation) (targets : List Target) (s : Stmt) → IsScope header now targets → IsFine header now.before s → IsScope header (behind now s) (targets ++ bound_target now.environment s ∷ [])
+IsScope-push header now targets s h fine = record {
+  means = ap (λ e. enter e s) h.means ∙ sym (after-push (opening header) now.before s);
+  is_header = h.is_header;
+  header_fine = h.header_fine;
+  fine = AreFine-push header [] now.before s h.fine fine;
+  bound = ap (λ l. l ++ bound_target now.environment s ∷ []) h.bound ∙ ap (λ e. bound_targets (opening header) now.before ++ bound_target e s ∷ []) h.means ∙ sym (bound_targets-push (opening header) now.before s);
+}
+
+pub FallInto-push : (tokens : List Lexeme) (from : ℕ) (ss : List Stmt) (s : Stmt) (to next : ℕ) → FallInto tokens from ss to → IsStatement tokens to s next → FallInto tokens from (ss ++ s ∷ []) next
+FallInto-push tokens from [] s to next h is = let P : ℕ → Type 0 = λ n. IsStatement tokens n s next in (next, subst P h is, refl)
+FallInto-push tokens from (x ∷ ss) s to next h is = (h.0, h.1, FallInto-push tokens h.0 ss s to next h.2 is)
+
+-- one statement of the header more
+pub IsReadHeader-push : (tokens : List Lexeme) (place next : ℕ) (now : Situation) (s : Stmt) → IsReadHeader tokens place now → IsStatement tokens place s next → IsFineInHeader now.before s → IsReadHeader tokens next (behind now s)
+IsReadHeader-push tokens place next now s h is fine = record {
+  statements = FallInto-push tokens 0 now.before s place next h.statements is;
+  fine = AreFineInHeader-push [] now.before s h.fine fine;
+  means = ap (λ e. enter e s) h.means ∙ sym (after-push nothing now.before s);
+}
+
+-- the element that a look-up finds
+pub get_or-at : {X : Type 0} (xs : List X) (i : ℕ) (x d : X) → slice_get xs i ≡ Some x → get_or xs i d ≡ x
+get_or-at [] i x d h = absurd (none_is_some h)
+get_or-at (y ∷ ys) zero x d h = some_same h
+get_or-at (y ∷ ys) (suc i) x d h = get_or-at ys i x d h
+
+pub length-lexemes_of : (source : List ℕ) (tokens : List Token) → length (lexemes_of source tokens) ≡ length tokens
+length-lexemes_of source [] = refl
+length-lexemes_of source (t ∷ ts) = ap suc (length-lexemes_of source ts)

@@ -1,0 +1,5 @@
+use Rattle.qasm_scope.proofs.ApplicationLemmas.{repeats_from}
+use Rattle.qasm_scope.proofs.applied.repeats_qubit.Goals as goal
+
+pub returns : goal.returns
+returns c = repeats_from c.args.names.now.environment c.args.args.now c.applications-times.ensures c.has_pair.ensures

@@ -1,0 +1,5 @@
+use Rattle.qasm_scope.proofs.BoundLemmas.{IsWellBound-fine}
+use Rattle.qasm_scope.proofs.laws.gates_are_well_bound.Goals as goal
+
+pub returns : goal.returns
+returns c = IsWellBound-fine

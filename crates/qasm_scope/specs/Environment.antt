@@ -1,0 +1,85 @@
+-- How statements add to what names stand for.
+use Rattle.std.specs.Prelude.{ℕ, List, [], ◌∷◌, ◌++◌, true, false, map, length, codes}
+use Rattle.std.specs.List.{position_or_len}
+use Rattle.std.specs.Str.{bytes_eq}
+use Rattle.qasm_parse.specs.declared.stmt.Arg.{Arg}
+use Rattle.qasm_parse.specs.declared.stmt.BodyOp.{BodyOp}
+use Rattle.qasm_parse.specs.declared.stmt.Named.{Named}
+use Rattle.qasm_parse.specs.declared.stmt.Stmt.{Stmt}
+use Rattle.qasm_parse.specs.declared.stmt.Stmt.TheVariants as stmt
+use Rattle.qasm_scope.specs.declared.gate.Bound.{Bound}
+use Rattle.qasm_scope.specs.declared.gate.GateDef.{GateDef}
+use Rattle.qasm_scope.specs.declared.gate.Target.TheVariants as target
+use Rattle.qasm_scope.specs.declared.meaning.Meaning.{Meaning}
+use Rattle.qasm_scope.specs.declared.meaning.Meaning.TheVariants as means
+use Rattle.qasm_scope.specs.Names.{Environment, callee, target_of, value_or}
+
+abbrev pub words_of : List Named → List (List ℕ)
+words_of names = map (λ n. n.word) names
+
+-- a call of a body, bound: its arguments by their places among the gate's, and its callee by what names stand for
+abbrev pub bound_call : Environment → List (List ℕ) → BodyOp → Bound
+bound_call e args op = record {
+  target = value_or (target_of (callee e op.name)) target.Barrier;
+  exprs = op.exprs;
+  args = map (λ (arg : Arg). position_or_len (bytes_eq arg.word) args) op.args;
+}
+
+abbrev pub bound_gate : Environment → List Named → List Named → List BodyOp → GateDef
+bound_gate e params args body = record {
+  params = words_of params;
+  args = length args;
+  body = map (bound_call e (words_of args)) body;
+}
+
+-- one name more
+abbrev pub with_name : Environment → List ℕ → Meaning → Environment
+with_name e name m = record { header = e.header; own = e.own ++ (name, m) ∷ []; included = e.included; gates = e.gates }
+
+-- one gate more, with its name
+abbrev pub with_gate : Environment → List ℕ → List Named → List Named → List BodyOp → Environment
+with_gate e name params args body = record {
+  header = e.header;
+  own = e.own ++ (name, means.Gate (length e.gates) (length params) (length args)) ∷ [];
+  included = e.included;
+  gates = e.gates ++ bound_gate e params args body ∷ [];
+}
+
+abbrev pub with_header : Environment → Environment
+with_header e = record { header = e.header; own = e.own; included = true; gates = e.gates }
+
+-- what holds behind a statement
+abbrev pub enter : Environment → Stmt → Environment
+enter e (stmt.Include name at) = with_header e
+enter e (stmt.Qreg name size at) = with_name e name (means.Qubits size)
+enter e (stmt.Creg name size at) = with_name e name (means.Bits size)
+enter e (stmt.Gate name params args body at) = with_gate e name params args body
+enter e (stmt.Opaque name params args at) = with_name e name means.Opaque
+enter e (stmt.Version number at) = e
+enter e (stmt.Call call) = e
+enter e (stmt.Measure from into at) = e
+enter e (stmt.Reset arg at) = e
+enter e (stmt.Barrier args at) = e
+enter e (stmt.If at) = e
+
+-- what holds behind statements
+abbrev pub after : Environment → List Stmt → Environment
+after e [] = e
+after e (s ∷ ss) = after (enter e s) ss
+
+-- before the header's own statements
+abbrev pub nothing : Environment
+nothing = record { header = []; own = []; included = false; gates = [] }
+
+-- before a file's statements: the names of the header's statements and `cz`, not yet included, and the header's gates
+abbrev pub opening : List Stmt → Environment
+opening header = record {
+  header = (after nothing header).own ++ (codes "cz", means.Native) ∷ [];
+  own = [];
+  included = false;
+  gates = (after nothing header).gates;
+}
+
+-- what holds behind the statements of a file
+abbrev pub environment : List Stmt → List Stmt → Environment
+environment header statements = after (opening header) statements

@@ -1,0 +1,12 @@
+-- The least offset of a refusal.
+use Rattle.std.specs.Prelude.{ℕ, ◌≤◌, min, Option, Some, None, MatchOption}
+
+-- the least number of which P holds, or none where it holds of none
+pub record IsLeastOffset (P : ℕ → Type 0) (result : Option ℕ) : Type 0 where
+  pub is : MatchOption result ((at : ℕ) → ¬ P at) (λ a. P a × ((b : ℕ) → P b → a ≤ b))
+
+-- the lesser of two offsets, of those that there are
+abbrev pub earlier : Option ℕ → Option ℕ → Option ℕ
+earlier None b = b
+earlier (Some a) None = Some a
+earlier (Some a) (Some b) = Some (min a b)

@@ -1,0 +1,68 @@
+//! What is wrong with the arguments of a statement at the top, one by one.
+
+ghost use Rattle.std.specs.Prelude.{◌≡◌, ◌↔◌, IsTrue};
+ghost use Rattle.qasm_scope.specs.Judged.{HasArgFault, HasArgFaultAt, size_of};
+ghost use Rattle.qasm_scope.specs.Least.{IsLeastOffset};
+
+use crate::least::earlier;
+use crate::names::Names;
+use qasm_parse::Arg;
+
+/// A kind of registers.
+#[derive(Clone, Copy, Debug, PartialEq, Eq)]
+pub(crate) enum Register {
+    /// Of qubits.
+    Qubits,
+    /// Of bits.
+    Bits,
+}
+
+/// What is wrong with an argument.
+#[derive(Clone, Copy, Debug, PartialEq, Eq)]
+pub(crate) enum ArgFault {
+    /// It names no register of its kind.
+    NotDeclared,
+    /// Its index isn't less than its register's size.
+    Index,
+}
+
+/// The size of the register of this kind and name.
+fn size_of(names: &Names, register: Register, name: &[u8]) -> Option<u64>
+    ensures { result ≡ size_of names.now.environment register name.now }
+{
+    match register {
+        Register::Qubits => names.qubit_size(name),
+        Register::Bits => names.bit_size(name),
+    }
+}
+
+/// Whether this is wrong with the argument.
+fn arg_has(names: &Names, register: Register, fault: ArgFault, arg: &Arg) -> bool
+    ensures { IsTrue result ↔ HasArgFault names.now.environment register fault arg.now }
+{
+    let size = size_of(names, register, arg.word.as_slice());
+    match fault {
+        ArgFault::NotDeclared => size.is_none(),
+        ArgFault::Index => match (size, arg.index) {
+            (Some(size), Some(index)) => size <= index,
+            _ => false,
+        },
+    }
+}
+
+/// The least offset of an argument with which this is wrong.
+pub(crate) fn least_arg(
+    names: &Names,
+    register: Register,
+    fault: ArgFault,
+    args: &[Arg],
+) -> Option<u32>
+    ensures { IsLeastOffset (HasArgFaultAt names.now.environment register fault args.now) result }
+{
+    let mut least = None;
+    for arg in args {
+        let refused = arg_has(names, register, fault, arg);
+        least = earlier(least, refused.then_some(arg.at));
+    }
+    least
+}

@@ -1,0 +1,127 @@
+//! The header that an include of `qelib1.inc` stands for.
+
+ghost use Rattle.std.specs.Prelude.{◌≡◌, ◌<◌, [], IsTrue, ◌↔◌, length, IfOk, OnOk};
+ghost use Rattle.qasm_lex.specs.Cuts.{AreTokensOf};
+ghost use Rattle.qasm_parse.specs.Statements.{IsStatement};
+ghost use Rattle.qasm_parse.specs.Symbols.{lexemes_of};
+ghost use Rattle.qasm_scope.specs.Accepted.{behind};
+ghost use Rattle.qasm_scope.specs.Header.{IsHeader, header_text};
+ghost use Rattle.qasm_scope.specs.Scopes.{AreFineInHeader, IsFineInHeader, IsVersionOrGate, IsReadHeader};
+ghost use Rattle.qasm_scope.specs.Environment.{after, nothing, opening};
+
+use crate::names::Names;
+use qasm_lex::{Tokens, lex};
+use qasm_parse::{Stmt, statement};
+use std::alloc::Global;
+use zac_gates::{List, Memory};
+
+/// The text of the header, behind the version that opens each source.
+const TEXT: &[u8] = b"OPENQASM 2.0;\n\
+gate u3(theta,phi,lambda) q { U(theta,phi,lambda) q; }\n\
+gate u2(phi,lambda) q { U(pi/2,phi,lambda) q; }\n\
+gate u1(lambda) q { U(0,0,lambda) q; }\n\
+gate cx c,t { CX c,t; }\n\
+gate id a { U(0,0,0) a; }\n\
+gate x a { u3(pi,0,pi) a; }\n\
+gate y a { u3(pi,pi/2,pi/2) a; }\n\
+gate z a { u1(pi) a; }\n\
+gate h a { u2(0,pi) a; }\n\
+gate s a { u1(pi/2) a; }\n\
+gate sdg a { u1(-pi/2) a; }\n\
+gate t a { u1(pi/4) a; }\n\
+gate tdg a { u1(-pi/4) a; }\n\
+gate rx(theta) a { u3(theta,-pi/2,pi/2) a; }\n\
+gate ry(theta) a { u3(theta,0,0) a; }\n\
+gate rz(phi) a { u1(phi) a; }\n\
+gate cy a,b { sdg b; cx a,b; s b; }\n\
+gate ch a,b { h b; sdg b; cx a,b; h b; t b; cx a,b; t b; h b; s b; x b; s a; }\n\
+gate ccx a,b,c { h c; cx b,c; tdg c; cx a,c; t c; cx b,c; tdg c; cx a,c; t b; t c; h c; cx a,b; t a; tdg b; cx a,b; }\n\
+gate crz(lambda) a,b { u1(lambda/2) b; cx a,b; u1(-lambda/2) b; cx a,b; }\n\
+gate cu1(lambda) a,b { u1(lambda/2) a; cx a,b; u1(-lambda/2) b; cx a,b; u1(lambda/2) b; }\n\
+gate cu3(theta,phi,lambda) c,t { u1((lambda-phi)/2) t; cx c,t; u3(-theta/2,0,-(phi+lambda)/2) t; cx c,t; u3(theta/2,phi,0) t; }\n\
+gate u(theta,phi,lambda) q { U(theta,phi,lambda) q; }\n\
+gate p(lambda) q { U(0,0,lambda) q; }\n\
+gate sx a { sdg a; h a; sdg a; }\n\
+gate sxdg a { s a; h a; s a; }\n\
+gate swap a,b { cx a,b; cx b,a; cx a,b; }\n\
+gate cswap a,b,c { cx c,b; ccx a,b,c; cx c,b; }\n\
+gate cp(lambda) a,b { p(lambda/2) a; cx a,b; p(-lambda/2) b; cx a,b; p(lambda/2) b; }\n\
+gate crx(lambda) a,b { u1(pi/2) b; cx a,b; u3(-lambda/2,0,0) b; cx a,b; u3(lambda/2,-pi/2,0) b; }\n\
+gate cry(lambda) a,b { ry(lambda/2) b; cx a,b; ry(-lambda/2) b; cx a,b; }\n\
+gate rzz(theta) a,b { cx a,b; rz(theta) b; cx a,b; }\n\
+gate rxx(theta) a,b { h a; h b; cx a,b; rz(theta) b; cx a,b; h b; h a; }\n";
+
+/// The text of the header.
+pub fn header_text() -> &'static [u8]
+    ensures { result.now ≡ header_text }
+{
+    TEXT
+}
+
+/// Whether a statement is the version, or a gate with a body.
+fn is_version_or_gate(stmt: &Stmt) -> bool
+    ensures { IsTrue result ↔ IsVersionOrGate stmt.now }
+{
+    matches!(stmt, Stmt::Version { .. } | Stmt::Gate { .. })
+}
+
+/// Enters a statement of the header. The header's own statements are never refused: where a type leaves that open, the
+/// answer is want of memory.
+fn take_in(names: &mut Names, stmt: Stmt) -> Result<(), Memory>
+    ensures entered { OnOk result (names.new ≡ behind names.old stmt) }
+    ensures fine { OnOk result (names.old.environment ≡ after nothing names.old.before → IsFineInHeader names.old.before stmt) }
+{
+    if !is_version_or_gate(&stmt) || names.judge(&stmt).is_some() {
+        return Err(Memory);
+    }
+    names.enter(stmt)
+}
+
+/// The statement of the header at a place, and the place behind it.
+fn statement_of(
+    alloc: Global,
+    source: &[u8],
+    tokens: &Tokens,
+    place: u32,
+) -> Result<(Stmt, u32), Memory>
+    requires lexed { AreTokensOf source.now tokens.now }
+    requires place { place < length tokens.now.tokens }
+    ensures { IfOk result (λ r. IsStatement (lexemes_of source.now tokens.now.tokens) place r.0 r.1) }
+{
+    match statement(alloc, source, tokens, place) {
+        Ok(read) => Ok(read),
+        Err(_) => Err(Memory),
+    }
+}
+
+/// The header's statements, entered one behind the other.
+fn read_statements(alloc: Global, source: &[u8], tokens: &Tokens) -> Result<Names, Memory>
+    requires { AreTokensOf source.now tokens.now }
+    ensures { IfOk result (IsReadHeader (lexemes_of source.now tokens.now.tokens) (length tokens.now.tokens)) }
+{
+    let mut names = Names::new(alloc);
+    let mut place: u32 = 0;
+    while (place as usize) < tokens.all().len() {
+        let (stmt, next) = statement_of(alloc, source, tokens, place)?;
+        take_in(&mut names, stmt)?;
+        place = next;
+    }
+    Ok(names)
+}
+
+/// The header's statements, and the situation in which a file begins.
+pub(crate) fn read_header(alloc: Global) -> Result<(List<Stmt>, Names), Memory>
+    ensures is_header { IfOk result (λ r. IsHeader r.0) }
+    ensures fine { IfOk result (λ r. AreFineInHeader [] r.0) }
+    ensures opening { IfOk result (λ r. r.1 ≡ record { environment = opening r.0; before = [] }) }
+{
+    let source = header_text();
+    let Ok(tokens) = lex(alloc, source) else {
+        return Err(Memory);
+    };
+    let names = read_statements(alloc, source, &tokens)?;
+    if names.has_own(b"cz".as_slice()) {
+        return Err(Memory);
+    }
+    names.opened()
+}

@@ -1,0 +1,84 @@
+//! The judgement of a statement.
+
+ghost use Rattle.std.specs.Prelude.{◌≡◌};
+ghost use Rattle.qasm_scope.specs.Judged.{kinds_in_order};
+
+use crate::arguments::ArgFault;
+use crate::calls::CallFault;
+use crate::fault::{ScopeFault, ScopeKind};
+use crate::kinds::{
+    after_read_at, argument_at, call_at, control_at, include_at, name_at, redeclared_at,
+    repeated_at, reset_at, sizes_at, version_at,
+};
+use crate::names::Names;
+use qasm_parse::Stmt;
+
+/// The kinds of refusals in their order.
+fn kinds_in_order() -> [ScopeKind; 15]
+    ensures { result ≡ kinds_in_order }
+{
+    [
+        ScopeKind::Version,
+        ScopeKind::Control,
+        ScopeKind::Reset,
+        ScopeKind::Include,
+        ScopeKind::Redeclared,
+        ScopeKind::NotDeclared,
+        ScopeKind::UnknownGate,
+        ScopeKind::Opaque,
+        ScopeKind::Params,
+        ScopeKind::Arity,
+        ScopeKind::Sizes,
+        ScopeKind::Index,
+        ScopeKind::Repeated,
+        ScopeKind::Name,
+        ScopeKind::AfterRead,
+    ]
+}
+
+impl Names {
+    ghost use Rattle.std.specs.Prelude.{◌≡◌, ℕ, MatchOption};
+    ghost use Rattle.qasm_scope.specs.Least.{IsLeastOffset};
+    ghost use Rattle.qasm_scope.specs.Refusals.{IsFirstRefusal, Refuses};
+    ghost use Rattle.qasm_scope.specs.declared.fault.ScopeKind.{ScopeKind};
+
+    /// The least offset of a refusal of this kind.
+    fn least_offset(&self, kind: ScopeKind, stmt: &Stmt) -> Option<u32>
+        ensures { IsLeastOffset
+            (Refuses self.now.environment self.now.before stmt.now kind)
+            result }
+    {
+        match kind {
+            ScopeKind::Version => version_at(stmt),
+            ScopeKind::Control => control_at(stmt),
+            ScopeKind::Reset => reset_at(stmt),
+            ScopeKind::Include => include_at(stmt),
+            ScopeKind::Redeclared => redeclared_at(self, stmt),
+            ScopeKind::NotDeclared => argument_at(self, ArgFault::NotDeclared, stmt),
+            ScopeKind::UnknownGate => call_at(self, CallFault::Unknown, stmt),
+            ScopeKind::Opaque => call_at(self, CallFault::Opaque, stmt),
+            ScopeKind::Params => call_at(self, CallFault::Params, stmt),
+            ScopeKind::Arity => call_at(self, CallFault::Arity, stmt),
+            ScopeKind::Sizes => sizes_at(self, stmt),
+            ScopeKind::Index => argument_at(self, ArgFault::Index, stmt),
+            ScopeKind::Repeated => repeated_at(self, stmt),
+            ScopeKind::Name => name_at(stmt),
+            ScopeKind::AfterRead => after_read_at(self, stmt),
+        }
+    }
+
+    /// The refusal of a statement: of several the first by kind, and then by offset. `None` where
+    /// nothing is wrong.
+    pub(crate) fn judge(&self, stmt: &Stmt) -> Option<ScopeFault>
+        ensures { MatchOption result
+            ((k : ScopeKind) (at : ℕ) → ¬ Refuses self.now.environment self.now.before stmt.now k at)
+            (λ f. IsFirstRefusal self.now.environment self.now.before stmt.now f.kind f.at) }
+    {
+        for kind in kinds_in_order() {
+            if let Some(at) = self.least_offset(kind, stmt) {
+                return Some(ScopeFault { kind, at });
+            }
+        }
+        None
+    }
+}

@@ -1,0 +1,185 @@
+//! Of each kind the least offset of a statement's refusal.
+
+ghost use Rattle.std.specs.Prelude.{◌≡◌, ◌⊎◌, ◌↔◌, IsTrue};
+ghost use Rattle.qasm_scope.specs.Judged.{HasArgFaultAt, HasCallFaultAt};
+ghost use Rattle.qasm_scope.specs.Least.{IsLeastOffset};
+ghost use Rattle.qasm_scope.specs.Refusals.{
+  HasName,
+  HasRepeated,
+  HasUnevenSizes,
+  IsAfterRead,
+  IsControl,
+  IsOtherInclude,
+  IsOtherVersion,
+  IsRedeclared,
+  IsReset,
+  ReadsUnevenly,
+  bit_args,
+  calls_in,
+  qubit_args,
+};
+
+use crate::applied::{repeats_qubit, touches_read};
+use crate::arguments::{ArgFault, Register, least_arg};
+use crate::bodies::{least_other_in, least_twice, least_undeclared};
+use crate::calls::{CallFault, least_call};
+use crate::least::earlier;
+use crate::names::Names;
+use crate::pairs::{PairFault, has_pair};
+use crate::parts::{bit_args, calls_in, qubit_args};
+use qasm_parse::{Arg, Stmt};
+use std::slice;
+
+/// The offset of a version other than `2.0`.
+pub(crate) fn version_at(stmt: &Stmt) -> Option<u32>
+    ensures { IsLeastOffset (IsOtherVersion stmt.now) result }
+{
+    match stmt {
+        Stmt::Version { number, at } => (number.as_slice() != b"2.0".as_slice()).then_some(*at),
+        _ => None,
+    }
+}
+
+/// The offset of a condition.
+pub(crate) fn control_at(stmt: &Stmt) -> Option<u32>
+    ensures { IsLeastOffset (IsControl stmt.now) result }
+{
+    match stmt {
+        Stmt::If { at } => Some(*at),
+        _ => None,
+    }
+}
+
+/// The offset of a reset.
+pub(crate) fn reset_at(stmt: &Stmt) -> Option<u32>
+    ensures { IsLeastOffset (IsReset stmt.now) result }
+{
+    match stmt {
+        Stmt::Reset { at, .. } => Some(*at),
+        _ => None,
+    }
+}
+
+/// The offset of an include of another file than the header.
+pub(crate) fn include_at(stmt: &Stmt) -> Option<u32>
+    ensures { IsLeastOffset (IsOtherInclude stmt.now) result }
+{
+    match stmt {
+        Stmt::Include { name, at } => {
+            (name.as_slice() != b"qelib1.inc".as_slice()).then_some(*at)
+        }
+        _ => None,
+    }
+}
+
+/// The offset of a name that is declared again, or of a header that comes too late.
+pub(crate) fn redeclared_at(names: &Names, stmt: &Stmt) -> Option<u32>
+    ensures { IsLeastOffset (IsRedeclared names.now.environment stmt.now) result }
+{
+    match stmt {
+        Stmt::Qreg { name, at, .. } => names.is_declared(name.as_slice()).then_some(*at),
+        Stmt::Creg { name, at, .. } => names.is_declared(name.as_slice()).then_some(*at),
+        Stmt::Gate { name, at, .. } => names.is_declared(name.as_slice()).then_some(*at),
+        Stmt::Opaque { name, at, .. } => names.is_declared(name.as_slice()).then_some(*at),
+        Stmt::Include { at, .. } => names.clashes_with_header().then_some(*at),
+        _ => None,
+    }
+}
+
+/// The least offset of an argument with which this is wrong.
+pub(crate) fn argument_at(names: &Names, fault: ArgFault, stmt: &Stmt) -> Option<u32>
+    ensures { IsLeastOffset
+        (λ at.
+        HasArgFaultAt names.now.environment Register.Qubits fault (qubit_args stmt.now) at
+        ⊎ HasArgFaultAt names.now.environment Register.Bits fault (bit_args stmt.now) at)
+        result }
+{
+    earlier(
+        least_arg(names, Register::Qubits, fault, qubit_args(stmt)),
+        least_arg(names, Register::Bits, fault, bit_args(stmt)),
+    )
+}
+
+/// The least offset of a call with which this is wrong.
+pub(crate) fn call_at(names: &Names, fault: CallFault, stmt: &Stmt) -> Option<u32>
+    ensures { IsLeastOffset
+        (HasCallFaultAt names.now.environment fault (calls_in stmt.now))
+        result }
+{
+    least_call(names, fault, calls_in(stmt))
+}
+
+/// Whether a measurement is from a register into one bit or the other way round, or between registers of different
+/// size.
+fn reads_unevenly(names: &Names, from: &Arg, into: &Arg) -> bool
+    ensures { IsTrue result
+        ↔ ReadsUnevenly names.now.environment from.now into.now from.now.index into.now.index }
+{
+    match (from.index, into.index) {
+        (None, None) => {
+            names.qubit_size(from.word.as_slice()) != names.bit_size(into.word.as_slice())
+        }
+        (Some(_), None) => true,
+        (None, Some(_)) => true,
+        (Some(_), Some(_)) => false,
+    }
+}
+
+/// The offset of a call or a measurement of uneven sizes.
+pub(crate) fn sizes_at(names: &Names, stmt: &Stmt) -> Option<u32>
+    ensures { IsLeastOffset (HasUnevenSizes names.now.environment stmt.now) result }
+{
+    match stmt {
+        Stmt::Call { call } => {
+            has_pair(names, PairFault::Sizes, call.args.as_slice()).then_some(call.at)
+        }
+        Stmt::Measure { from, into, at } => reads_unevenly(names, from, into).then_some(*at),
+        _ => None,
+    }
+}
+
+/// The least offset of a call that repeats a qubit or, in a body, an argument.
+pub(crate) fn repeated_at(names: &Names, stmt: &Stmt) -> Option<u32>
+    ensures { IsLeastOffset (HasRepeated names.now.environment stmt.now) result }
+{
+    match stmt {
+        Stmt::Call { call } => repeats_qubit(names, call.args.as_slice()).then_some(call.at),
+        Stmt::Gate { body, .. } => least_call(names, CallFault::Repeated, body.as_slice()),
+        _ => None,
+    }
+}
+
+/// The least offset of a name that comes twice in a declaration, or isn't declared there.
+pub(crate) fn name_at(stmt: &Stmt) -> Option<u32>
+    ensures { IsLeastOffset (HasName stmt.now) result }
+{
+    match stmt {
+        Stmt::Gate {
+            params,
+            args,
+            body,
+            ..
+        } => {
+            let params = params.as_slice();
+            let args = args.as_slice();
+            let undeclared = least_undeclared(params, args, body.as_slice());
+            earlier(least_twice(params, args), undeclared)
+        }
+        Stmt::Opaque { params, args, .. } => least_twice(params.as_slice(), args.as_slice()),
+        Stmt::Call { call } => least_other_in(&[], call.exprs.as_slice()),
+        _ => None,
+    }
+}
+
+/// The offset of a call or a measurement on a qubit that was read.
+pub(crate) fn after_read_at(names: &Names, stmt: &Stmt) -> Option<u32>
+    ensures { IsLeastOffset (IsAfterRead names.now.environment names.now.before stmt.now) result }
+{
+    match stmt {
+        Stmt::Call { call } => touches_read(names, call.args.as_slice()).then_some(call.at),
+        Stmt::Measure { from, at, .. } => {
+            touches_read(names, slice::from_ref(from)).then_some(*at)
+        }
+        _ => None,
+    }
+}

@@ -1,0 +1,182 @@
+//! What names stand for behind some statements, and what was read.
+
+ghost use Rattle.std.specs.Prelude.{◌≡◌, OnOk, OnErr};
+ghost use Rattle.qasm_scope.specs.Reads.{IsMeasurement, with_reads_of};
+ghost use Rattle.qasm_scope.specs.Registers.{reads_of};
+
+use crate::gate::GateDef;
+use crate::known::Known;
+use crate::meaning::Callee;
+use crate::reads::Reads;
+use qasm_parse::Stmt;
+use std::alloc::Global;
+use std::marker::Model;
+use zac_gates::{List, Memory};
+
+/// The names that the statements so far declare, with these statements. Contracts see what names stand for, and the list
+/// of the statements.
+#[derive(Drop)]
+pub(crate) struct Names {
+    alloc: Global,
+    known: Known,
+    reads: Reads,
+    statements: Vec<Stmt>,
+}
+
+impl Model for Names {
+    ghost use Rattle.qasm_scope.specs.Accepted.{Situation};
+
+    ghost Value = { Situation };
+
+    ghost use Rattle.qasm_scope.specs.Reads.{AreReadsOf};
+    ghost use Rattle.qasm_scope.specs.Registers.{reads_of};
+
+    ghost view = { λ n. record { environment = n.known; before = n.statements.items } };
+
+    ghost invariant = { λ n. AreReadsOf (reads_of n.reads) n.statements.items };
+}
+
+/// Notes what a statement reads. Without memory nothing changes; only a measurement wants it.
+fn note_read(reads: &mut Reads, stmt: &Stmt) -> Result<(), Memory>
+    ensures ok { OnOk result (reads_of reads.new ≡ with_reads_of (reads_of reads.old) stmt.now) }
+    ensures err { OnErr result (reads_of reads.new ≡ reads_of reads.old) }
+    ensures measured { OnErr result (IsMeasurement stmt.now) }
+{
+    if let Stmt::Measure { from, .. } = stmt {
+        return reads.note(from.word.as_slice(), from.index);
+    }
+    Ok(())
+}
+
+impl Names {
+    ghost use Rattle.std.specs.Prelude.{◌≡◌, ℕ, ◌<◌, ◌↔◌, [], None, codes, is_some, IsTrue, IfOk, OnOk, OnErr};
+    ghost use Rattle.qasm_scope.specs.Accepted.{behind};
+    ghost use Rattle.qasm_scope.specs.Applications.{IsRead};
+    ghost use Rattle.qasm_scope.specs.Entering.{DeclaresNew};
+    ghost use Rattle.qasm_scope.specs.Environment.{nothing};
+    ghost use Rattle.qasm_scope.specs.Names.{callee, own_meaning, qubit_size, bit_size};
+    ghost use Rattle.qasm_scope.specs.Refusals.{IsDeclared, ClashesWithHeader};
+    ghost use Rattle.qasm_scope.specs.Scopes.{opened};
+
+    /// No statements, and no names.
+    pub(crate) fn new(alloc: Global) -> Names
+        ensures { result ≡ record { environment = nothing; before = [] } }
+    {
+        Names {
+            alloc,
+            known: Known::new(alloc),
+            reads: Reads::new(alloc),
+            statements: Vec::new(alloc),
+        }
+    }
+
+    /// Enters a statement behind those before it. It declares no name that the file has declared.
+    ///
+    /// Without memory nothing changes. Memory is wanted too where a gate has 2^32 parameters or arguments, or stands
+    /// behind 2^32 gates.
+    pub(crate) fn enter(&mut self, stmt: Stmt) -> Result<(), Memory>
+        requires { DeclaresNew self.old.environment stmt }
+        ensures ok { OnOk result (self.new ≡ behind self.old stmt) }
+        ensures err { OnErr result (self.new ≡ self.old) }
+    {
+        self.statements.reserve(1)?;
+        self.known.enter(&stmt)?;
+        note_read(&mut self.reads, &stmt)?;
+        self.statements.push(stmt).unwrap();
+        Ok(())
+    }
+
+    /// The statements, and the situation in which a file begins behind them, where they are the header's. `cz` isn't
+    /// among the names.
+    pub(crate) fn opened(self) -> Result<(List<Stmt>, Names), Memory>
+        requires { own_meaning self.environment (codes "cz") ≡ None }
+        ensures header { IfOk result (λ r. r.0 ≡ self.before) }
+        ensures opening { IfOk result (λ r. r.1 ≡ record { environment = opened self.environment; before = [] }) }
+    {
+        let Names {
+            alloc,
+            known,
+            reads: _,
+            statements,
+        } = self;
+        let names = Names {
+            alloc,
+            known: known.opened()?,
+            reads: Reads::new(alloc),
+            statements: Vec::new(alloc),
+        };
+        Ok((List::of(statements), names))
+    }
+
+    /// Whether the file has declared the name.
+    pub(crate) fn has_own(&self, name: &[u8]) -> bool
+        ensures { result ≡ is_some (own_meaning self.now.environment name.now) }
+    {
+        self.known.has_own(name)
+    }
+
+    /// The gates with a body.
+    pub(crate) fn gates(&self) -> &[GateDef]
+        ensures { result.now ≡ self.now.environment.gates }
+    {
+        self.known.gates()
+    }
+
+    /// The statements.
+    pub(crate) fn statements(&self) -> &[Stmt]
+        ensures { result.now ≡ self.now.before }
+    {
+        self.statements.as_slice()
+    }
+
+    /// What a call's name stands for.
+    pub(crate) fn callee(&self, name: &[u8]) -> Callee
+        ensures { result ≡ callee self.now.environment name.now }
+    {
+        self.known.callee(name)
+    }
+
+    /// The size of a register of qubits.
+    pub(crate) fn qubit_size(&self, name: &[u8]) -> Option<u64>
+        ensures { result ≡ qubit_size self.now.environment name.now }
+    {
+        self.known.qubit_size(name)
+    }
+
+    /// The size of a register of bits.
+    pub(crate) fn bit_size(&self, name: &[u8]) -> Option<u64>
+        ensures { result ≡ bit_size self.now.environment name.now }
+    {
+        self.known.bit_size(name)
+    }
+
+    /// Whether a name is declared: by the file, or as a fixed name of a header that is included.
+    pub(crate) fn is_declared(&self, name: &[u8]) -> bool
+        ensures { IsTrue result ↔ IsDeclared self.now.environment name.now }
+    {
+        self.known.is_declared(name)
+    }
+
+    /// Whether the file has declared a fixed name of the header, which isn't included yet.
+    pub(crate) fn clashes_with_header(&self) -> bool
+        ensures { IsTrue result ↔ ClashesWithHeader self.now.environment }
+    {
+        self.known.clashes_with_header()
+    }
+
+    /// Whether a place was read.
+    pub(crate) fn is_read(&self, name: &[u8], index: u64) -> bool
+        ensures { IsTrue result ↔ IsRead self.now.environment self.now.before (name.now, index) }
+    {
+        self.reads.is_single(name, index)
+            || (self.reads.is_whole(name) && index < self.qubit_size(name).unwrap_or(0))
+    }
+
+    /// Whether a place of a register below a bound was read.
+    pub(crate) fn has_read_below(&self, name: &[u8], bound: u64) -> bool
+        ensures { IsTrue result ↔ ((k : ℕ) × (k < bound) × IsRead self.now.environment self.now.before (name.now, k)) }
+    {
+        let places = bound.min(self.qubit_size(name).unwrap_or(0));
+        self.reads.has_single_below(name, bound) || (self.reads.is_whole(name) && places > 0)
+    }
+}

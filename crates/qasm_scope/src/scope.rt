@@ -1,0 +1,124 @@
+//! The names of a program, statement by statement.
+
+use crate::binding::bound;
+use crate::fault::ScopeFault;
+use crate::gate::{GateDef, Target};
+use crate::header::read_header;
+use crate::names::Names;
+use qasm_parse::Stmt;
+use std::alloc::Global;
+use std::marker::Model;
+use zac_gates::{List, Memory};
+
+/// The statements of a program that were admitted so far, with what their names stand for. Contracts see the header's
+/// statements and those that were admitted.
+#[derive(Drop)]
+pub struct Scope {
+    header: List<Stmt>,
+    names: Names,
+    targets: Vec<Target>,
+}
+
+impl Model for Scope {
+    ghost use Rattle.qasm_scope.specs.Accepted.{Program};
+
+    ghost Value = { Program };
+
+    ghost use Rattle.qasm_scope.specs.Scopes.{IsScope};
+
+    ghost view = { λ s. record { header = s.header; statements = s.names.before } };
+
+    ghost invariant = { λ s. IsScope s.header s.names s.targets.items };
+}
+
+impl Scope {
+    ghost use Rattle.std.specs.Prelude.{◌≡◌, ℕ, [], ◌∷◌, ◌++◌, Some, take, slice_get, IfOk, OnOk, OnErr, MatchResult};
+    ghost use Rattle.qasm_parse.specs.declared.stmt.BodyOp.{BodyOp};
+    ghost use Rattle.qasm_parse.specs.declared.stmt.Stmt.TheVariants as stmt;
+    ghost use Rattle.qasm_scope.specs.Accepted.{AreFine, IsFine};
+    ghost use Rattle.qasm_scope.specs.Bound.{IsWellBound};
+    ghost use Rattle.qasm_scope.specs.Environment.{environment};
+    ghost use Rattle.qasm_scope.specs.Header.{IsHeader};
+    ghost use Rattle.qasm_scope.specs.Names.{callee, target_of};
+    ghost use Rattle.qasm_scope.specs.Refusals.{IsFirstRefusal};
+    ghost use Rattle.qasm_scope.specs.Scopes.{AreFineInHeader};
+
+    /// No statements, behind the header.
+    pub fn new(alloc: Global) -> Result<Scope, Memory>
+        ensures { IfOk result (λ scope. scope.statements ≡ []) }
+    {
+        let (header, names) = read_header(alloc)?;
+        Ok(Scope {
+            header,
+            names,
+            targets: Vec::new(alloc),
+        })
+    }
+
+    /// Judges the statement that stands behind those that were admitted. Of several refusals the first is told: by kind,
+    /// and then by offset. It takes no memory.
+    pub fn check(&self, stmt: &Stmt) -> Result<(), ScopeFault>
+        ensures { MatchResult result (λ _. IsFine self.now.header self.now.statements stmt.now)
+            (λ f. IsFirstRefusal (environment self.now.header self.now.statements) self.now.statements stmt.now f.kind f.at) }
+    {
+        match self.names.judge(stmt) {
+            None => Ok(()),
+            Some(fault) => Err(fault),
+        }
+    }
+
+    /// Admits a statement that isn't refused. Without memory nothing changes. Memory is wanted too where a gate has 2^32
+    /// parameters or arguments, or stands behind 2^32 gates.
+    pub fn admit(&mut self, stmt: Stmt) -> Result<(), Memory>
+        requires { IsFine self.old.header self.old.statements stmt }
+        ensures ok { OnOk result (self.new ≡ record { header = self.old.header; statements = self.old.statements ++ stmt ∷ [] }) }
+        ensures err { OnErr result (self.new ≡ self.old) }
+    {
+        self.targets.reserve(1)?;
+        let target = target_in(&self.names, &stmt);
+        self.names.enter(stmt)?;
+        self.targets.push(target).unwrap();
+        Ok(())
+    }
+
+    /// The statements that were admitted, in order. Behind the header none of them is refused.
+    pub fn statements(&self) -> &[Stmt]
+        ensures list { result.now ≡ self.now.statements }
+        ensures header { IsHeader self.now.header }
+        ensures header_fine { AreFineInHeader [] self.now.header }
+        ensures fine { AreFine self.now.header [] self.now.statements }
+    {
+        self.names.statements()
+    }
+
+    /// The gates with a body, those of the header first. A call's target names them by their places. Each call of a body
+    /// is bound to a gate before its own.
+    pub fn gates(&self) -> &[GateDef]
+        ensures list { result.now ≡ (environment self.now.header self.now.statements).gates }
+        ensures bound { (place : ℕ) → IsWellBound result.now place }
+    {
+        self.names.gates()
+    }
+
+    /// What the call at a place of the statements is bound to. A call stands there.
+    pub fn target(&self, place: u32) -> Target
+        requires { (call : BodyOp) × (slice_get self.now.statements place ≡ Some (stmt.Call call)) }
+        ensures { (call : BodyOp) → slice_get self.now.statements place ≡ Some (stmt.Call call)
+            → Some result ≡ target_of (callee (environment self.now.header (take place self.now.statements)) call.name) }
+    {
+        self.targets[place as usize]
+    }
+}
+
+ghost use Rattle.std.specs.Prelude.{◌≡◌};
+ghost use Rattle.qasm_scope.specs.Scopes.{bound_target};
+
+/// What a statement's call is bound to; a barrier where it is no call.
+fn target_in(names: &Names, stmt: &Stmt) -> Target
+    ensures { result ≡ bound_target names.now.environment stmt.now }
+{
+    match stmt {
+        Stmt::Call { call } => bound(names.callee(call.name.as_slice())),
+        _ => Target::Barrier,
+    }
+}
