@@ -1,0 +1,17 @@
+pub mod Angles
+pub mod Items
+pub mod Replacing
+pub mod WellBound
+pub mod Native
+pub mod Calls
+pub mod Limits
+pub mod Expansion
+pub mod Literals
+pub mod RegisterKinds
+pub mod Numbering
+pub mod Sized
+pub mod Top
+pub mod Answers
+pub mod Faults
+pub mod Walks
+pub mod AngleNodes

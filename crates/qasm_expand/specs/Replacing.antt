@@ -1,0 +1,52 @@
+-- Calls are replaced by the bodies of their gates, the first call that has a body first, until none has.
+use Rattle.std.specs.Prelude.{◌≡◌, ℕ, List, ◌∷◌, ◌++◌, map, Some, slice_get, zip, get_or}
+use Rattle.std.specs.List.{AllByRecursion}
+use Rattle.qasm_parse.specs.declared.stmt.Node.{Node}
+use Rattle.qasm_scope.specs.declared.gate.Bound.{Bound}
+use Rattle.qasm_scope.specs.declared.gate.GateDef.{GateDef}
+use Rattle.qasm_scope.specs.declared.gate.Target.{Target}
+use Rattle.qasm_scope.specs.declared.gate.Target.TheVariants as target
+use Rattle.qasm_expand.specs.Angles.{put_in}
+use Rattle.qasm_expand.specs.Items.{Item}
+use Rattle.qasm_expand.specs.Items.Item.{Applied, Fenced, Measured}
+
+-- a call of a body, where the gate is called with these angles on these qubits
+abbrev pub inner : Target → List (List Node) → List ℕ → Item
+inner target.Barrier angles qubits = Fenced
+inner to angles qubits = Applied to angles qubits
+
+abbrev pub body_call : List (List ℕ × List Node) → List ℕ → Bound → Item
+body_call angles qubits b =
+    inner b.target (map (put_in angles) b.exprs) (map (λ i. get_or qubits i 0) b.args)
+
+-- the body of a gate that is called with these angles on these qubits
+abbrev pub body_of : GateDef → List (List Node) → List ℕ → List Item
+body_of g angles qubits = map (body_call (zip g.params angles) qubits) g.body
+
+-- no gate with a body is called
+abbrev pub IsPlain : Item → Type 0
+IsPlain (Applied (target.Gate place) angles qubits) = ⊥
+IsPlain (Applied target.U angles qubits) = Unit {0}
+IsPlain (Applied target.Cx angles qubits) = Unit {0}
+IsPlain (Applied target.Cz angles qubits) = Unit {0}
+IsPlain (Applied target.Barrier angles qubits) = Unit {0}
+IsPlain Fenced = Unit {0}
+IsPlain (Measured qubit bit) = Unit {0}
+
+-- the first call that has a body is replaced by it
+pub record Replaces (gates : List GateDef) (old new : List Item) : Type 0 where
+  pub front : List Item
+  pub place : ℕ
+  pub angles : List (List Node)
+  pub qubits : List ℕ
+  pub rest : List Item
+  pub gate : GateDef
+  pub plain : AllByRecursion IsPlain front
+  pub is : old ≡ front ++ Applied (target.Gate place) angles qubits ∷ rest
+  pub declared_at : slice_get gates place ≡ Some gate
+  pub becomes : new ≡ front ++ (body_of gate angles qubits ++ rest)
+
+-- what is left where no call has a body
+pub data Expands (gates : List GateDef) : List Item → List Item → Type 0 where
+  plain : {items : List Item} → AllByRecursion IsPlain items → Expands gates items items
+  replaces : {old new items : List Item} → Replaces gates old new → Expands gates new items → Expands gates old items

@@ -1,0 +1,34 @@
+//! From the statements of a program to its native list: each gate with a body is replaced by its body.
+#![tactic(auto)]
+
+mod angle_depth;
+mod angle_limit;
+mod angle_node;
+mod angle_put;
+mod angle_stack;
+#[cfg(test)]
+mod angle_tests;
+mod angle_text;
+mod extent;
+pub mod fault;
+mod frame;
+mod kind;
+pub mod laws;
+mod limit;
+mod literals;
+mod native;
+#[cfg(test)]
+mod native_tests;
+mod numbering;
+mod registers;
+mod statement;
+mod step;
+mod sums;
+mod top;
+mod walk;
+#[cfg(test)]
+mod walk_tests;
+mod write;
+
+pub use fault::{ExpandFault, LimitKind};
+pub use native::expand;
