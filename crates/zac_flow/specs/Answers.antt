@@ -7,33 +7,40 @@ use Rattle.zac_plan.specs.Performs.{Performs}
 use Rattle.zair_form.specs.declared.program.Instr.{Instr}
 use Rattle.zair_text.specs.Lines.{program_text, program_lines}
 use Rattle.zair_text.specs.Writing.{AppendsLines}
-use Rattle.qasm_parse.specs.declared.stmt.Stmt.{Stmt}
-use Rattle.zac_flow.specs.Program.{qubits_of, native_circuit}
+use Rattle.zac_gates.specs.Ops.{NativeCircuit}
+use Rattle.qasm_expand.specs.Expansion.{IsWithinLimits, IsExpansion, PassesFirst}
+use Rattle.qasm_expand.specs.Items.{qubit_count}
+use Rattle.qasm_expand.specs.declared.fault.LimitKind.{LimitKind}
+use Rattle.qasm_scope.specs.Accepted.{Program}
 use Rattle.zac_flow.specs.Source.{IsAccepted, IsRefusedAt}
 use Rattle.zac_flow.specs.declared.source_fault.Refusal.{Refusal}
 use Rattle.zac_flow.specs.declared.status.Fault.{Fault}
 use Rattle.zac_flow.specs.declared.status.Fault.TheVariants as fault
-use Rattle.zac_flow.specs.Ends.{source_line, qubits_line}
+use Rattle.zac_flow.specs.Ends.{source_line, limit_line, qubits_line}
 use Rattle.zac_flow.specs.declared.status.Status.{Status}
-use Rattle.zac_flow.specs.declared.status.Status.TheVariants.{Done, SourceRefused, Usage, ReadFault, WriteFault, NoMemory, TooManyQubits, TooLong}
+use Rattle.zac_flow.specs.declared.status.Status.TheVariants.{Done, SourceRefused, Usage, ReadFault, WriteFault, NoMemory, TooManyQubits, TooLong, Limit}
 
 -- the most bytes of a source
 abbrev pub source_limit : ℕ
 source_limit = 4194304
 
--- The file is a source within its limit that is accepted as these statements. The card is the tiny card.
-pub record IsSource (files : Option NamedFiles) (name : List ℕ) (statements : List Stmt) : Type 0 where
+-- The file is a source within its limit that is accepted as this program. The card is the tiny card.
+pub record IsSource (files : Option NamedFiles) (name : List ℕ) (source : Program) : Type 0 where
   pub bytes : List ℕ
   pub held : Holds files name bytes
   pub short : length bytes ≤ source_limit
-  pub accepted : IsAccepted bytes statements
+  pub accepted : IsAccepted bytes source
 
--- The file is such a source, its qubits fit the storage, and the program performs it.
+-- The file is such a source, no limit is passed, the circuit is its native list, the qubits fit the storage, and the
+-- program performs the circuit.
 pub record Compiles (files : Option NamedFiles) (name : List ℕ) (program : List Instr) : Type 0 where
-  pub statements : List Stmt
-  pub source : IsSource files name statements
-  pub fits : qubits_of statements ≤ storage_count tiny_architecture
-  pub performs : Performs tiny_architecture (native_circuit statements) program
+  pub source : Program
+  pub is : IsSource files name source
+  pub limits : IsWithinLimits source
+  pub circuit : NativeCircuit
+  pub expansion : IsExpansion source circuit
+  pub fits : circuit.qubits ≤ storage_count tiny_architecture
+  pub performs : Performs tiny_architecture circuit program
 
 -- The headline: what a command wrote is the text of one program, which performs the source.
 pub record WritesProgram (files : Option NamedFiles) (name : List ℕ) (old new : Option (List ℕ)) : Type 0 where
@@ -60,11 +67,18 @@ pub record IsRefused (files : Option NamedFiles) (name : List ℕ) (k : Refusal)
   pub short : length bytes ≤ source_limit
   pub refused : IsRefusedAt bytes k at
 
--- the file is a source with more qubits than the tiny card has storage traps
+-- the file is a source that passes this limit first, with this count
+pub record HasPassed (files : Option NamedFiles) (name : List ℕ) (k : LimitKind) (count : ℕ) : Type 0 where
+  pub source : Program
+  pub is : IsSource files name source
+  pub passes : PassesFirst source k count
+
+-- the file is a source that passes no limit and has more qubits than the tiny card has storage traps
 pub record HasTooMany (files : Option NamedFiles) (name : List ℕ) (qubits : ℕ) : Type 0 where
-  pub statements : List Stmt
-  pub source : IsSource files name statements
-  pub qubits_are : qubits ≡ qubits_of statements
+  pub source : Program
+  pub is : IsSource files name source
+  pub limits : IsWithinLimits source
+  pub qubits_are : qubits ≡ qubit_count source.statements
   pub too_many : storage_count tiny_architecture < qubits
 
 -- why a command on this file is refused, and what it left in out; the shelf's and the sink's own counts tell of
@@ -74,6 +88,7 @@ Explains files name old new fault.Usage = ⊥
 Explains files name old new fault.Read = new ≡ old
 Explains files name old new fault.Long = IsLonger files name source_limit × (new ≡ old)
 Explains files name old new (fault.Source k at) = IsRefused files name k at × (new ≡ old)
+Explains files name old new (fault.Limit k n) = HasPassed files name k n × (new ≡ old)
 Explains files name old new (fault.Qubits n s) = HasTooMany files name n × (s ≡ storage_count tiny_architecture) × (new ≡ old)
 Explains files name old new fault.Write = WritesPrefix files name old new
 Explains files name old new fault.Memory = WritesLines files name old new ⊎ (new ≡ old)
@@ -88,6 +103,7 @@ Cause files None old new WriteFault = ⊥
 Cause files None old new NoMemory = ⊥
 Cause files None old new TooManyQubits = ⊥
 Cause files None old new TooLong = ⊥
+Cause files None old new Limit = ⊥
 Cause files (Some name) old new Usage = ⊥
 Cause files (Some name) old new Done = WritesProgram files name old new
 Cause files (Some name) old new SourceRefused = ((k : Refusal) × (at : ℕ) × IsRefused files name k at) × (new ≡ old)
@@ -96,6 +112,7 @@ Cause files (Some name) old new WriteFault = WritesPrefix files name old new
 Cause files (Some name) old new NoMemory = WritesLines files name old new ⊎ (new ≡ old)
 Cause files (Some name) old new TooManyQubits = ((qubits : ℕ) × HasTooMany files name qubits) × (new ≡ old)
 Cause files (Some name) old new TooLong = IsLonger files name source_limit × (new ≡ old)
+Cause files (Some name) old new Limit = ((k : LimitKind) × (count : ℕ) × HasPassed files name k count) × (new ≡ old)
 
 -- the line that a run tells for its status: none after Done
 abbrev pub IsLineOf : Option NamedFiles → Option (List ℕ) → Status → List ℕ → Type 0
@@ -109,6 +126,8 @@ IsLineOf files name NoMemory line = line ≡ codes "out of memory\n"
 IsLineOf files name TooManyQubits line =
     (qubits : ℕ) × IfSome name (λ file. HasTooMany files file qubits) × (line ≡ qubits_line qubits (storage_count tiny_architecture))
 IsLineOf files name TooLong line = line ≡ codes "too long: source\n"
+IsLineOf files name Limit line =
+    (k : LimitKind) × (count : ℕ) × IfSome name (λ file. HasPassed files file k count) × (line ≡ limit_line k count)
 
 -- the run has told its line, or a prefix of it where a call failed
 pub record Tells (files : Option NamedFiles) (name : Option (List ℕ)) (status : Status) (old new : Option (List ℕ)) (before now : ℕ) : Type 0 where
@@ -126,10 +145,12 @@ pub record RisesAt (which status : Status) (before now : ℕ) : Type 0 where
 abbrev pub Deserves : List ℕ → Status → Type 0
 Deserves bytes TooLong = source_limit < length bytes
 Deserves bytes SourceRefused = (length bytes ≤ source_limit) × ((k : Refusal) × (at : ℕ) × IsRefusedAt bytes k at)
+Deserves bytes Limit =
+    (length bytes ≤ source_limit) × ((source : Program) × (k : LimitKind) × (count : ℕ) × IsAccepted bytes source × PassesFirst source k count)
 Deserves bytes TooManyQubits =
-    (length bytes ≤ source_limit) × ((statements : List Stmt) × IsAccepted bytes statements × (storage_count tiny_architecture < qubits_of statements))
+    (length bytes ≤ source_limit) × ((source : Program) × IsAccepted bytes source × IsWithinLimits source × (storage_count tiny_architecture < qubit_count source.statements))
 Deserves bytes Done =
-    (length bytes ≤ source_limit) × ((statements : List Stmt) × IsAccepted bytes statements × (qubits_of statements ≤ storage_count tiny_architecture))
+    (length bytes ≤ source_limit) × ((source : Program) × IsAccepted bytes source × IsWithinLimits source × (qubit_count source.statements ≤ storage_count tiny_architecture))
 Deserves bytes Usage = ⊥
 Deserves bytes ReadFault = ⊥
 Deserves bytes WriteFault = ⊥

@@ -1,26 +1,43 @@
--- The kinds of a refusal: their names, and which goes before which.
+-- The names of the kinds of refusals and of the limits, as they are told.
 use Rattle.std.specs.Prelude.{ℕ, List, codes}
+use Rattle.qasm_expand.specs.declared.fault.LimitKind.{LimitKind}
+use Rattle.qasm_expand.specs.declared.fault.LimitKind.TheVariants as limit
+use Rattle.qasm_scope.specs.declared.fault.ScopeKind.{ScopeKind}
+use Rattle.qasm_scope.specs.declared.fault.ScopeKind.TheVariants as scope
 use Rattle.zac_flow.specs.declared.source_fault.Refusal.{Refusal}
-use Rattle.zac_flow.specs.declared.source_fault.Refusal.TheVariants.{Lex, Syntax, Version, Later, Redeclared, NotDeclared, Index, Repeated}
+use Rattle.zac_flow.specs.declared.source_fault.Refusal.TheVariants.{Lex, Syntax, Scope}
+
+-- the name of a statement's refusal
+abbrev pub scope_name : ScopeKind → List ℕ
+scope_name scope.Version = codes "Version"
+scope_name scope.Control = codes "Control"
+scope_name scope.Reset = codes "Reset"
+scope_name scope.Include = codes "Include"
+scope_name scope.Redeclared = codes "Redeclared"
+scope_name scope.NotDeclared = codes "NotDeclared"
+scope_name scope.UnknownGate = codes "UnknownGate"
+scope_name scope.Opaque = codes "Opaque"
+scope_name scope.Params = codes "Params"
+scope_name scope.Arity = codes "Arity"
+scope_name scope.Sizes = codes "Sizes"
+scope_name scope.Index = codes "Index"
+scope_name scope.Repeated = codes "Repeated"
+scope_name scope.Name = codes "Name"
+scope_name scope.AfterRead = codes "AfterRead"
 
 -- the name of a kind
 abbrev pub name_of : Refusal → List ℕ
 name_of Lex = codes "Lex"
 name_of Syntax = codes "Syntax"
-name_of Version = codes "Version"
-name_of Later = codes "Later"
-name_of Redeclared = codes "Redeclared"
-name_of NotDeclared = codes "NotDeclared"
-name_of Index = codes "Index"
-name_of Repeated = codes "Repeated"
+name_of (Scope k) = scope_name k
 
--- the place of a kind among all
-abbrev pub rank : Refusal → ℕ
-rank Lex = 0
-rank Syntax = 1
-rank Version = 2
-rank Later = 3
-rank Redeclared = 4
-rank NotDeclared = 5
-rank Index = 6
-rank Repeated = 7
+-- the name of a limit
+abbrev pub limit_name : LimitKind → List ℕ
+limit_name limit.Literal = codes "Literal"
+limit_name limit.Qubits = codes "Qubits"
+limit_name limit.Bits = codes "Bits"
+limit_name limit.Calls = codes "Calls"
+limit_name limit.Depth = codes "Depth"
+limit_name limit.AngleNodes = codes "AngleNodes"
+limit_name limit.AngleDepth = codes "AngleDepth"
+limit_name limit.AngleTotal = codes "AngleTotal"

@@ -1,10 +1,5 @@
 pub mod Kinds
-pub mod Program
-pub mod Judgement
-pub mod Offsets
 pub mod Source
-pub mod Forms
-pub mod Registers
 pub mod Words
 pub mod Ends
 pub mod Answers

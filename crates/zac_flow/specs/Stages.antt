@@ -1,5 +1,5 @@
 -- What each stage of a command answers.
-use Rattle.std.specs.Prelude.{◌≡◌, ℕ, ◌<◌, ◌≤◌, ◌⊎◌, List, [], ◌∷◌, ◌++◌, drop}
+use Rattle.std.specs.Prelude.{◌≡◌, ℕ, ◌<◌, ◌≤◌, List, [], ◌∷◌, ◌++◌}
 use Rattle.zac_arch.specs.Architecture.{storage_count}
 use Rattle.zac_arch.specs.Tiny.{tiny_architecture}
 use Rattle.zac_gates.specs.Ops.{NativeCircuit}
@@ -16,14 +16,19 @@ use Rattle.qasm_lex.specs.declared.token.LexFault.TheVariants as lexing
 use Rattle.qasm_parse.specs.declared.stmt.Stmt.{Stmt}
 use Rattle.qasm_parse.specs.declared.stmt.SyntaxFault.{SyntaxFault}
 use Rattle.qasm_parse.specs.declared.stmt.SyntaxFault.TheVariants as parsing
-use Rattle.zac_flow.specs.Program.{native_circuit}
-use Rattle.qasm_parse.specs.Readers.{offset_of}
+use Rattle.qasm_expand.specs.Expansion.{IsWithinLimits, IsExpansion, PassesFirst}
+use Rattle.qasm_expand.specs.declared.fault.LimitKind.{LimitKind}
+use Rattle.qasm_expand.specs.declared.fault.ExpandFault.{ExpandFault}
+use Rattle.qasm_expand.specs.declared.fault.ExpandFault.TheVariants as expanding
+use Rattle.qasm_scope.specs.Accepted.{IsFine, Program}
+use Rattle.qasm_scope.specs.Environment.{environment}
+use Rattle.qasm_scope.specs.Refusals.{IsFirstRefusal}
+use Rattle.qasm_scope.specs.declared.fault.ScopeFault.{ScopeFault}
 use Rattle.qasm_parse.specs.Statements.{IsStatement, IsSyntaxFault}
 use Rattle.qasm_parse.specs.Symbols.{Lexeme}
-use Rattle.zac_flow.specs.Judgement.{IsUnrefused, IsFirstRefusal}
 use Rattle.zac_flow.specs.Source.{IsAccepted, IsRefusedAt}
+use Rattle.zac_flow.specs.declared.source_fault.Refusal.{Refusal}
 use Rattle.zac_flow.specs.declared.source_fault.Refusal.TheVariants as kind
-use Rattle.zac_flow.specs.declared.source_fault.SourceFault.{SourceFault}
 use Rattle.zac_flow.specs.declared.status.Fault.{Fault}
 use Rattle.zac_flow.specs.declared.status.Fault.TheVariants as fault
 
@@ -41,8 +46,12 @@ abbrev pub of_parsing : SyntaxFault → Fault
 of_parsing parsing.Memory = fault.Memory
 of_parsing (parsing.At at) = fault.Source kind.Syntax at
 
-abbrev pub of_judging : SourceFault → Fault
-of_judging f = fault.Source f.kind f.at
+abbrev pub of_judging : ScopeFault → Fault
+of_judging f = fault.Source (kind.Scope f.kind) f.at
+
+abbrev pub of_expanding : ExpandFault → Fault
+of_expanding expanding.Memory = fault.Memory
+of_expanding (expanding.Limit k n) = fault.Limit k n
 
 abbrev pub of_planning : PlanFault → Fault
 of_planning planning.Memory = fault.Memory
@@ -54,13 +63,21 @@ of_writing writing.Failed = fault.Write
 
 -- the circuit is that of the source
 pub record IsCircuitOf (source : List ℕ) (c : NativeCircuit) : Type 0 where
-  pub statements : List Stmt
-  pub accepted : IsAccepted source statements
-  pub is : c ≡ native_circuit statements
+  pub program : Program
+  pub accepted : IsAccepted source program
+  pub limits : IsWithinLimits program
+  pub is : IsExpansion program c
+
+-- the source is accepted as a program that passes this limit first, with this count
+pub record PassesLimit (source : List ℕ) (k : LimitKind) (count : ℕ) : Type 0 where
+  pub program : Program
+  pub accepted : IsAccepted source program
+  pub passes : PassesFirst program k count
 
 -- why a source gives no circuit
 abbrev pub ExplainsSource : List ℕ → Fault → Type 0
 ExplainsSource source (fault.Source k at) = IsRefusedAt source k at
+ExplainsSource source (fault.Limit k n) = PassesLimit source k n
 ExplainsSource source fault.Memory = Unit {0}
 ExplainsSource source fault.Usage = ⊥
 ExplainsSource source fault.Read = ⊥
@@ -68,23 +85,31 @@ ExplainsSource source fault.Long = ⊥
 ExplainsSource source (fault.Qubits n s) = ⊥
 ExplainsSource source fault.Write = ⊥
 
+-- why a source gives no program
+abbrev pub ExplainsReading : List ℕ → Fault → Type 0
+ExplainsReading source (fault.Source k at) = IsRefusedAt source k at
+ExplainsReading source fault.Memory = Unit {0}
+ExplainsReading source other = ⊥
+
 -- the statement at a place is read and accepted behind others
-pub record ReadsStatement (tokens : List Lexeme) (from : ℕ) (before after : List Stmt) (next : ℕ) : Type 0 where
+pub record ReadsStatement (tokens : List Lexeme) (from : ℕ) (before after : Program) (next : ℕ) : Type 0 where
   pub statement : Stmt
   pub is : IsStatement tokens from statement next
-  pub unrefused : IsUnrefused before statement
-  pub after_is : after ≡ before ++ statement ∷ []
+  pub fine : IsFine before.header before.statements statement
+  pub same_header : after.header ≡ before.header
+  pub after_is : after.statements ≡ before.statements ++ statement ∷ []
 
 -- none is read at the place, or the one that is read is refused behind others
-abbrev pub ExplainsStatement : List Lexeme → ℕ → ℕ → List Stmt → Fault → Type 0
-ExplainsStatement tokens from end before (fault.Source k at) =
-    ((k ≡ kind.Syntax) × IsSyntaxFault tokens from end at) ⊎ ((s : Stmt) × (next : ℕ) × IsStatement tokens from s next × IsFirstRefusal before (offset_of end (drop from tokens)) s k at)
+abbrev pub StopsWith : List Lexeme → ℕ → ℕ → Program → Refusal → ℕ → Type 0
+StopsWith tokens from end before kind.Lex at = ⊥
+StopsWith tokens from end before kind.Syntax at = IsSyntaxFault tokens from end at
+StopsWith tokens from end before (kind.Scope k) at =
+    (s : Stmt) × (next : ℕ) × IsStatement tokens from s next × IsFirstRefusal (environment before.header before.statements) before.statements s k at
+
+abbrev pub ExplainsStatement : List Lexeme → ℕ → ℕ → Program → Fault → Type 0
+ExplainsStatement tokens from end before (fault.Source k at) = StopsWith tokens from end before k at
 ExplainsStatement tokens from end before fault.Memory = Unit {0}
-ExplainsStatement tokens from end before fault.Usage = ⊥
-ExplainsStatement tokens from end before fault.Read = ⊥
-ExplainsStatement tokens from end before fault.Long = ⊥
-ExplainsStatement tokens from end before (fault.Qubits n s) = ⊥
-ExplainsStatement tokens from end before fault.Write = ⊥
+ExplainsStatement tokens from end before other = ⊥
 
 -- why a circuit gives no program
 abbrev pub ExplainsPlan : NativeCircuit → Fault → Type 0
@@ -94,6 +119,7 @@ ExplainsPlan c fault.Usage = ⊥
 ExplainsPlan c fault.Read = ⊥
 ExplainsPlan c fault.Long = ⊥
 ExplainsPlan c (fault.Source k at) = ⊥
+ExplainsPlan c (fault.Limit k n) = ⊥
 ExplainsPlan c fault.Write = ⊥
 
 -- the program performs the circuit on the tiny card

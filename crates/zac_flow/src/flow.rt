@@ -56,14 +56,15 @@ fn compile_file<S: Shelf, K: Sink>(
 /// that its times allow. `Usage` comes exactly where the words are no command. `ReadFault` comes only where a call
 /// on the shelf failed, `TooLong` exactly where the file has more than 4,194,304 bytes and no call failed,
 /// `SourceRefused` exactly where the file's source is refused, with the kind and the offset of the refusal in the line
-/// on `err`, `TooManyQubits` exactly where an accepted source has more qubits than storage traps, `WriteFault` only
-/// where a call on `out` failed, behind a prefix of the text. Want of memory may come always, behind whole lines. Every
-/// other refusal leaves `out` as it was. A refusal's line goes to `err`, whose failures change no status. The shelf is
-/// asked for the named file alone.
+/// on `err`, `Limit` exactly where an accepted source passes a limit of the expansion, with the first such limit and its
+/// count in the line, `TooManyQubits` exactly where an accepted source within the limits has more qubits than storage
+/// traps, `WriteFault` only where a call on `out` failed, behind a prefix of the text. Want of memory may come always,
+/// behind whole lines. Every other refusal leaves `out` as it was. A refusal's line goes to `err`, whose failures change
+/// no status. The shelf is asked for the named file alone.
 ///
 /// A source is accepted where its tokens fall into statements, the first of them the version, and none is refused
-/// behind those before it. Tokens are judged first, and then each statement in turn: its syntax, and then whether the
-/// version is 2.0, whether the plan can carry the statement, and whether its names, indices and qubits are right.
+/// behind those before it. Tokens are judged first, and then each statement in turn: its syntax, and then its names,
+/// numbers, sizes and indices, in the order of the kinds of refusals.
 pub fn run<S: Shelf, K: Sink, E: Sink>(
     alloc: Global,
     words: &[String],

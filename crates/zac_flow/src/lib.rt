@@ -1,14 +1,9 @@
 //! The top call: from the words of a command to its answer.
 #![tactic(auto)]
 
-mod circuit;
-mod extent;
 mod flow;
-mod form;
-mod judge;
 pub mod laws;
 mod refusal;
-mod registers;
 mod source;
 mod source_fault;
 mod stages;

@@ -2,11 +2,12 @@
 
 ghost use Rattle.std.specs.Prelude.{◌≡◌, codes, decimal};
 ghost use Rattle.zac_io.specs.Outside.{Writes, HasCause};
-ghost use Rattle.zac_flow.specs.Ends.{refusal_line, source_line, qubits_line};
+ghost use Rattle.zac_flow.specs.Ends.{refusal_line, source_line, limit_line, qubits_line};
 
-use crate::source_fault::Refusal;
+use crate::source_fault::{Refusal, limit_name};
 use crate::status::Fault;
 use itoa::Buffer;
+use qasm_expand::LimitKind;
 use zac_io::{Failed, Sink};
 
 impl Fault {
@@ -20,6 +21,7 @@ impl Fault {
             Fault::Read => err.write(b"read fault: source\n"),
             Fault::Long => err.write(b"too long: source\n"),
             Fault::Source { kind, at } => tell_source(*kind, *at, err),
+            Fault::Limit { kind, count } => tell_limit(*kind, *count, err),
             Fault::Qubits { qubits, traps } => tell_qubits(*qubits, *traps, err),
             Fault::Write => err.write(b"write fault\n"),
             Fault::Memory => err.write(b"out of memory\n"),
@@ -36,6 +38,19 @@ fn tell_source<E: Sink>(kind: Refusal, at: u32, err: &mut E) -> Result<(), Faile
     err.write(kind.name().as_bytes())?;
     err.write(b" at ")?;
     err.write(Buffer::new().format(at).as_bytes())?;
+    err.write(b"\n")?;
+    Ok(())
+}
+
+/// Writes that the source passes this limit with this count.
+fn tell_limit<E: Sink>(kind: LimitKind, count: u64, err: &mut E) -> Result<(), Failed>
+    ensures line { Writes (E.written err.old) (E.written err.new) (limit_line kind count) result }
+    ensures cause { HasCause result (E.faults err.old) (E.faults err.new) }
+{
+    err.write(b"limit: ")?;
+    err.write(limit_name(kind).as_bytes())?;
+    err.write(b" ")?;
+    err.write(Buffer::new().format(count).as_bytes())?;
     err.write(b"\n")?;
     Ok(())
 }

@@ -1,26 +1,20 @@
-//! Why a source is refused.
+//! Why a source is refused, and which limits it may pass: the names that are told.
 
 ghost use Rattle.std.specs.Prelude.{◌≡◌};
+ghost use Rattle.zac_flow.specs.Kinds.{limit_name, scope_name};
 
-/// The kind of a refusal. A statement that has several is refused by the first of this list.
+use qasm_expand::LimitKind;
+use qasm_scope::ScopeKind;
+
+/// The kind of a refusal.
 #[derive(Clone, Copy, Debug, PartialEq, Eq)]
 pub enum Refusal {
     /// No token, blank or comment begins there.
     Lex,
     /// The tokens begin no statement.
     Syntax,
-    /// The version isn't 2.0.
-    Version,
-    /// The statement is one that the plan can't carry yet.
-    Later,
-    /// The name of the register is declared before.
-    Redeclared,
-    /// The argument names no register.
-    NotDeclared,
-    /// The index isn't less than the size of the register.
-    Index,
-    /// Both arguments are one qubit.
-    Repeated,
+    /// The statement is refused behind those before it.
+    Scope { kind: ScopeKind },
 }
 
 impl Refusal {
@@ -33,21 +27,46 @@ impl Refusal {
         match self {
             Refusal::Lex => "Lex",
             Refusal::Syntax => "Syntax",
-            Refusal::Version => "Version",
-            Refusal::Later => "Later",
-            Refusal::Redeclared => "Redeclared",
-            Refusal::NotDeclared => "NotDeclared",
-            Refusal::Index => "Index",
-            Refusal::Repeated => "Repeated",
+            Refusal::Scope { kind } => scope_name(*kind),
         }
     }
 }
 
-/// The kind of a refusal, and the offset at which it stands.
-#[derive(Clone, Copy, Debug, PartialEq, Eq)]
-pub struct SourceFault {
-    /// The kind.
-    pub kind: Refusal,
-    /// The offset in the source, in bytes.
-    pub at: u32,
+/// The name of a statement's refusal.
+fn scope_name(kind: ScopeKind) -> &'static str
+    ensures { result.now ≡ scope_name kind }
+{
+    match kind {
+        ScopeKind::Version => "Version",
+        ScopeKind::Control => "Control",
+        ScopeKind::Reset => "Reset",
+        ScopeKind::Include => "Include",
+        ScopeKind::Redeclared => "Redeclared",
+        ScopeKind::NotDeclared => "NotDeclared",
+        ScopeKind::UnknownGate => "UnknownGate",
+        ScopeKind::Opaque => "Opaque",
+        ScopeKind::Params => "Params",
+        ScopeKind::Arity => "Arity",
+        ScopeKind::Sizes => "Sizes",
+        ScopeKind::Index => "Index",
+        ScopeKind::Repeated => "Repeated",
+        ScopeKind::Name => "Name",
+        ScopeKind::AfterRead => "AfterRead",
+    }
+}
+
+/// The name of a limit.
+pub(crate) fn limit_name(kind: LimitKind) -> &'static str
+    ensures { result.now ≡ limit_name kind }
+{
+    match kind {
+        LimitKind::Literal => "Literal",
+        LimitKind::Qubits => "Qubits",
+        LimitKind::Bits => "Bits",
+        LimitKind::Calls => "Calls",
+        LimitKind::Depth => "Depth",
+        LimitKind::AngleNodes => "AngleNodes",
+        LimitKind::AngleDepth => "AngleDepth",
+        LimitKind::AngleTotal => "AngleTotal",
+    }
 }

@@ -3,12 +3,13 @@
 ghost use Rattle.std.specs.Prelude.{◌≡◌, ◌≤◌, IfOk, IfErr, length};
 ghost use Rattle.zac_flow.specs.Stages.{IsCircuitOf, ExplainsSource, ExplainsPlan, IsProgramOf};
 
-use crate::circuit::circuit_of;
 use crate::source::read_source;
-use crate::source_fault::{Refusal, SourceFault};
+use crate::source_fault::Refusal;
 use crate::status::Fault;
+use qasm_expand::{ExpandFault, expand};
 use qasm_lex::LexFault;
 use qasm_parse::SyntaxFault;
+use qasm_scope::ScopeFault;
 use std::alloc::Global;
 use zac_arch::Card;
 use zac_gates::{Circuit, Memory};
@@ -88,16 +89,30 @@ impl From<SyntaxFault> for Fault {
     }
 }
 
-impl From<SourceFault> for Fault {
+impl From<ScopeFault> for Fault {
     ghost use Rattle.std.specs.Prelude.{◌≡◌};
     ghost use Rattle.zac_flow.specs.Stages.{of_judging};
 
     ghost from_gives = { λ e f. f ≡ of_judging e };
 
-    fn from(e: SourceFault) -> Fault {
+    fn from(e: ScopeFault) -> Fault {
         Fault::Source {
-            kind: e.kind,
+            kind: Refusal::Scope { kind: e.kind },
             at: e.at,
+        }
+    }
+}
+
+impl From<ExpandFault> for Fault {
+    ghost use Rattle.std.specs.Prelude.{◌≡◌};
+    ghost use Rattle.zac_flow.specs.Stages.{of_expanding};
+
+    ghost from_gives = { λ e f. f ≡ of_expanding e };
+
+    fn from(e: ExpandFault) -> Fault {
+        match e {
+            ExpandFault::Memory => Fault::Memory,
+            ExpandFault::Limit { kind, count } => Fault::Limit { kind, count },
         }
     }
 }
@@ -137,8 +152,8 @@ pub fn circuit_from(alloc: Global, source: &[u8]) -> Result<Circuit, Fault>
     ensures few { IfOk result (λ circuit. length circuit.ops ≤ 786432) }
     ensures err { IfErr result (ExplainsSource source.now) }
 {
-    let registers = read_source(alloc, source)?;
-    let circuit = circuit_of(alloc, &registers)?;
+    let scope = read_source(alloc, source)?;
+    let circuit = expand(alloc, &scope)?;
     Ok(circuit)
 }
 

@@ -3,6 +3,7 @@
 ghost use Rattle.std.specs.Prelude.{◌≡◌};
 
 use crate::source_fault::Refusal;
+use qasm_expand::LimitKind;
 
 /// The status with which a command ends.
 #[derive(Clone, Copy, Debug, PartialEq, Eq)]
@@ -23,6 +24,8 @@ pub enum Status {
     TooManyQubits,
     /// A file is longer than its limit.
     TooLong,
+    /// The source passes a limit of the expansion.
+    Limit,
 }
 
 impl Status {
@@ -41,6 +44,7 @@ impl Status {
             Status::NoMemory => 5,
             Status::TooManyQubits => 7,
             Status::TooLong => 10,
+            Status::Limit => 11,
         }
     }
 }
@@ -56,6 +60,8 @@ pub enum Fault {
     Long,
     /// The source is refused, with this kind at this offset.
     Source { kind: Refusal, at: u32 },
+    /// The source passes this limit, with this count.
+    Limit { kind: LimitKind, count: u64 },
     /// So many qubits for so many storage traps.
     Qubits { qubits: u32, traps: u32 },
     /// The output could not be written.
@@ -76,6 +82,7 @@ impl Fault {
             Fault::Read => Status::ReadFault,
             Fault::Long => Status::TooLong,
             Fault::Source { .. } => Status::SourceRefused,
+            Fault::Limit { .. } => Status::Limit,
             Fault::Qubits { .. } => Status::TooManyQubits,
             Fault::Write => Status::WriteFault,
             Fault::Memory => Status::NoMemory,

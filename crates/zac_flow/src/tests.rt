@@ -148,6 +148,7 @@ fn counts_the_qubits(rt: HostRuntime) -> Result<(), Fail> {
             Status::TooManyQubits,
             "too many qubits: 5 for 4 traps\n",
         ),
+        ("qreg q[4097];\n", 1, Status::Limit, "limit: Qubits 4097\n"),
         (
             "qreg q[4096];\n",
             1,
@@ -187,12 +188,21 @@ fn tells_why_a_source_is_refused(rt: HostRuntime) -> Result<(), Fail> {
     let rows = [
         ("qreg q[2];\nCX q[0] q[1];", "Syntax at 33"),
         ("qreg q[2];\nCX q[0],q[1]; $", "Lex at 39"),
-        ("qreg q[2];\ncreg c[2];", "Later at 25"),
-        ("qreg q[2];\nCX q,q;", "Later at 25"),
-        ("qreg q[2];\n  U(0,0,0) q[0];", "Later at 27"),
-        ("qreg q[2];\nif(c==1) CX q[0],q[1];", "Later at 25"),
-        ("qreg q[4096];qreg r[1];", "Later at 27"),
-        ("qreg q[4096];qreg q[1];", "Later at 27"),
+        ("qreg q[2];\n  if(c==1) CX q[0],q[1];", "Control at 27"),
+        ("qreg q[2];reset q;", "Reset at 24"),
+        ("include \"x.inc\";", "Include at 22"),
+        ("qreg q[1];h q[0];", "UnknownGate at 24"),
+        ("opaque o a;o q[0];", "NotDeclared at 27"),
+        ("qreg q[1];opaque o a;o q[0];", "Opaque at 35"),
+        ("qreg q[2];U(0,0) q;", "Params at 24"),
+        ("qreg q[2];gate g a { }g q[0],q[1];", "Arity at 36"),
+        ("qreg q[2];creg c[1];measure q -> c;", "Sizes at 34"),
+        ("gate g(x) a,x { }", "Name at 26"),
+        (
+            "qreg q[1];creg c[1];measure q -> c;U(0,0,0) q;",
+            "AfterRead at 49",
+        ),
+        ("qreg q[2];CX q,q;", "Repeated at 24"),
         ("qreg q[2];qreg q[1];", "Redeclared at 29"),
         ("qreg q[2];CX r[0],q[1];", "NotDeclared at 27"),
         ("qreg q[2];CX q[2],r[0];", "NotDeclared at 32"),
@@ -200,7 +210,7 @@ fn tells_why_a_source_is_refused(rt: HostRuntime) -> Result<(), Fail> {
         ("qreg q[2];CX q[1],q[2];", "Index at 32"),
         ("qreg q[0];CX q[0],q[0];", "Index at 27"),
         ("qreg q[2];CX q[1],q[1];", "Repeated at 24"),
-        ("creg c[2];\nqreg q[2]", "Later at 14"),
+        ("creg c[2];\nqreg q[2]", "Syntax at 34"),
         ("qreg q[2]", "Syntax at 23"),
         ("qreg q[2];OPENQASM 2.0;", "Syntax at 24"),
     ];
@@ -225,6 +235,53 @@ fn tells_why_a_source_is_refused(rt: HostRuntime) -> Result<(), Fail> {
         let ended = end_of(rt.alloc(), "compile @tiny f", text, NONE)?;
         assert_eq!(rt; ended.status, Status::SourceRefused, "{source}");
         assert_eq!(rt; ended.err.bytes(), told.as_bytes(), "{source}");
+    }
+    Ok(())
+}
+
+// Each limit with the count that first passes it. Each row stands behind the version line.
+#[test]
+fn tells_which_limit_is_passed(rt: HostRuntime) -> Result<(), Fail> {
+    let rows = [
+        (
+            "gate g a { U(0,11111111111111111111111111111111111111111,0) a; }",
+            "Literal 41",
+        ),
+        ("qreg q[4096];qreg r[1];", "Qubits 4097"),
+        (
+            "qreg q[18446744073709551616];creg c[18446744073709551615];measure q -> c;",
+            "Qubits 18446744073709551615",
+        ),
+        ("creg c[65536];creg d[1];", "Bits 65537"),
+        (
+            "qreg q[1];gate g0 a { }gate g1 a { g0 a; g0 a; }gate g2 a { g1 a; g1 a; }gate g3 a { g2 a; g2 a; }gate g4 a { g3 a; g3 a; }gate g5 a { g4 a; g4 a; }gate g6 a { g5 a; g5 a; }gate g7 a { g6 a; g6 a; }gate g8 a { g7 a; g7 a; }gate g9 a { g8 a; g8 a; }gate g10 a { g9 a; g9 a; }gate g11 a { g10 a; g10 a; }gate g12 a { g11 a; g11 a; }gate g13 a { g12 a; g12 a; }gate g14 a { g13 a; g13 a; }gate g15 a { g14 a; g14 a; }gate g16 a { g15 a; g15 a; }gate g17 a { g16 a; g16 a; }g17 q[0];g0 q[0];g0 q[0];",
+            "Calls 262145",
+        ),
+        (
+            "qreg q[1];gate g0 a { }gate g1 a { g0 a; }gate g2 a { g1 a; }gate g3 a { g2 a; }gate g4 a { g3 a; }gate g5 a { g4 a; }gate g6 a { g5 a; }gate g7 a { g6 a; }gate g8 a { g7 a; }gate g9 a { g8 a; }gate g10 a { g9 a; }gate g11 a { g10 a; }gate g12 a { g11 a; }gate g13 a { g12 a; }gate g14 a { g13 a; }gate g15 a { g14 a; }gate g16 a { g15 a; }gate g17 a { g16 a; }gate g18 a { g17 a; }gate g19 a { g18 a; }gate g20 a { g19 a; }gate g21 a { g20 a; }gate g22 a { g21 a; }gate g23 a { g22 a; }gate g24 a { g23 a; }gate g25 a { g24 a; }gate g26 a { g25 a; }gate g27 a { g26 a; }gate g28 a { g27 a; }gate g29 a { g28 a; }gate g30 a { g29 a; }gate g31 a { g30 a; }gate g32 a { g31 a; }gate g33 a { g32 a; }gate g34 a { g33 a; }gate g35 a { g34 a; }gate g36 a { g35 a; }gate g37 a { g36 a; }gate g38 a { g37 a; }gate g39 a { g38 a; }gate g40 a { g39 a; }gate g41 a { g40 a; }gate g42 a { g41 a; }gate g43 a { g42 a; }gate g44 a { g43 a; }gate g45 a { g44 a; }gate g46 a { g45 a; }gate g47 a { g46 a; }gate g48 a { g47 a; }gate g49 a { g48 a; }gate g50 a { g49 a; }gate g51 a { g50 a; }gate g52 a { g51 a; }gate g53 a { g52 a; }gate g54 a { g53 a; }gate g55 a { g54 a; }gate g56 a { g55 a; }gate g57 a { g56 a; }gate g58 a { g57 a; }gate g59 a { g58 a; }gate g60 a { g59 a; }gate g61 a { g60 a; }gate g62 a { g61 a; }gate g63 a { g62 a; }gate g64 a { g63 a; }g64 q[0];",
+            "Depth 65",
+        ),
+        (
+            "qreg q[1];U(0+1+1+1+1+1+1+1+1+1+1+1+1+1+1+1+1+1+1+1+1+1+1+1+1+1+1+1+1+1+1+1+1+1+1+1+1+1+1+1+1+1+1+1+1+1+1+1+1+1+1+1+1+1+1+1+1+1+1+1+1+1+1+1+1+1+1+1+1+1+1+1+1+1+1+1+1+1+1+1+1+1+1+1+1+1+1+1+1+1+1+1+1+1+1+1+1+1+1+1+1+1+1+1+1+1+1+1+1+1+1+1+1+1+1+1+1+1+1+1+1+1+1+1+1+1+1+1+1,0,0) q[0];",
+            "AngleNodes 257",
+        ),
+        (
+            "qreg q[1];U(----------------------------------------------------------------1,0,0) q[0];",
+            "AngleDepth 65",
+        ),
+        (
+            "qreg q[1];gate g0(x,y,z) a { U(x,y,z) a; }gate g1(x,y,z) a { g0(x,y,z) a; g0(x,y,z) a; }gate g2(x,y,z) a { g1(x,y,z) a; g1(x,y,z) a; }gate g3(x,y,z) a { g2(x,y,z) a; g2(x,y,z) a; }gate g4(x,y,z) a { g3(x,y,z) a; g3(x,y,z) a; }gate g5(x,y,z) a { g4(x,y,z) a; g4(x,y,z) a; }gate g6(x,y,z) a { g5(x,y,z) a; g5(x,y,z) a; }gate g7(x,y,z) a { g6(x,y,z) a; g6(x,y,z) a; }gate g8(x,y,z) a { g7(x,y,z) a; g7(x,y,z) a; }gate g9(x,y,z) a { g8(x,y,z) a; g8(x,y,z) a; }gate g10(x,y,z) a { g9(x,y,z) a; g9(x,y,z) a; }gate g11(x,y,z) a { g10(x,y,z) a; g10(x,y,z) a; }gate g12(x,y,z) a { g11(x,y,z) a; g11(x,y,z) a; }gate g13(x,y,z) a { g12(x,y,z) a; g12(x,y,z) a; }g13(0+2*3+2*3+2*3+2*3+2*3+2*3+2*3+2*3+2*3+2*3+2*3+2*3+2*3+2*3+2*3+2*3+2*3+2*3+2*3+2*3+2*3+2*3+2*3+2*3+2*3+2*3+2*3+2*3+2*3+2*3,0+2*3+2*3+2*3+2*3+2*3+2*3+2*3+2*3+2*3+2*3+2*3+2*3+2*3+2*3+2*3+2*3+2*3+2*3+2*3+2*3+2*3+2*3+2*3+2*3+2*3+2*3+2*3+2*3+2*3+2*3,0+2*3+2*3+2*3+2*3+2*3+2*3+2*3+2*3+2*3+2*3+2*3+2*3+2*3+2*3+2*3+2*3+2*3+2*3+2*3+2*3+2*3+2*3+2*3+2*3+2*3+2*3+2*3+2*3+2*3+2*3) q[0];",
+            "AngleTotal 4194344",
+        ),
+    ];
+    for (rest, limit) in rows {
+        let source = format!(in rt.alloc(); "OPENQASM 2.0;\n{rest}")?;
+        let told = format!(in rt.alloc(); "limit: {limit}\n")?;
+        let source = bytes(rt.alloc(), source.as_bytes())?;
+        let ended = end_of(rt.alloc(), "compile @tiny f", source, NONE)?;
+        assert_eq!(rt; ended.status, Status::Limit, "{limit}");
+        assert_eq!(rt; ended.out.bytes(), b"".as_slice(), "{limit}");
+        assert_eq!(rt; ended.err.bytes(), told.as_bytes(), "{limit}");
     }
     Ok(())
 }
@@ -285,6 +342,7 @@ fn numbers_each_status(rt: HostRuntime) {
         (Status::NoMemory, 5),
         (Status::TooManyQubits, 7),
         (Status::TooLong, 10),
+        (Status::Limit, 11),
     ];
     for (status, code) in rows {
         assert_eq!(rt; status.code(), code, "{status:?}");

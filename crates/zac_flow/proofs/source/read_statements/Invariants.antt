@@ -1,5 +1,6 @@
 use Rattle.std.proofs.Common.{◌-◌, ◌≤◌, [], length}
 use Rattle.qasm_parse.specs.Symbols.{lexemes_of}
+use Rattle.qasm_scope.specs.Header.{IsHeader}
 use Rattle.zac_flow.specs.Source.{AreAccepted}
 use Rattle.zac_flow.proofs.source.read_statements.Given as goal
 
@@ -7,7 +8,8 @@ use Rattle.zac_flow.proofs.source.read_statements.Given as goal
 abbrev pub invariant-loop-place : goal.invariant-loop-place
 invariant-loop-place l = record {
   within : l.place ≤ length l.tokens.tokens;
-  so_far : AreAccepted (lexemes_of l.source l.tokens.tokens) [] 0 l.registers l.place;
+  header : IsHeader l.scope.header;
+  so_far : AreAccepted l.scope.header (lexemes_of l.source l.tokens.tokens) [] 0 l.scope.statements l.place;
 }
 
 abbrev pub decreases-loop-place : goal.decreases-loop-place

@@ -1,0 +1,9 @@
+OPENQASM 2.0;
+include "qelib1.inc";
+qreg q[1];
+qreg r[2];
+qreg e[0];
+rz(-pi/2+0.5e1*2) q[0];
+U(2^-1^2,0,0) q[0];
+CX q[0],r;
+U(0,0,0) e;
