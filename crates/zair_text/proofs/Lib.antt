@@ -4,3 +4,6 @@ pub mod OneLine
 pub mod Shape
 pub mod Growing
 pub mod Steps
+pub mod OneText
+pub mod SmallNumbers
+pub mod Writable

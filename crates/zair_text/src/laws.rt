@@ -1,9 +1,11 @@
 //! Laws of lines.
 
-ghost use Rattle.std.specs.Prelude.{◌≡◌, IsTrue};
+ghost use Rattle.std.specs.Prelude.{◌≡◌, IsTrue, List};
+ghost use Rattle.zair_form.specs.declared.program.Instr.{Instr};
 ghost use Rattle.zair_form.specs.Steps.{has_own_steps};
 ghost use Rattle.zair_text.specs.Values.{instr_value};
-ghost use Rattle.zair_text.specs.Lines.{ReadsBack};
+ghost use Rattle.zair_text.specs.Lines.{ReadsBack, program_text};
+ghost use Rattle.zair_text.specs.Ranges.{AreWritable};
 
 use zair_form::Instr;
 
@@ -21,4 +23,10 @@ pub fn one_line_one_instr(a: &Instr, b: &Instr, bytes: &[u8])
     requires line_of_first { ReadsBack (instr_value a.now) bytes.now }
     requires line_of_second { ReadsBack (instr_value b.now) bytes.now }
     ensures { a.now ≡ b.now }
+{}
+
+/// A text is that of one program alone: two lists of instructions with one text are one list, where their jobs have steps
+/// of their own AOD alone, as those of a program have, and their numbers are less than 2^64, as those of all types are.
+pub fn one_text_one_program()
+    ensures { (a b : List Instr) → AreWritable a → AreWritable b → program_text a ≡ program_text b → a ≡ b }
 {}

@@ -47,6 +47,7 @@ impl From<Failed> for WriteFault {
     }
 }
 
+ghost use Rattle.zair_text.specs.Ranges.{AreWritable};
 ghost use Rattle.zair_text.specs.Writing.{AppendsLines, HasWriteCause};
 
 /// Writes the text of a program: its first line, and then a line for each instruction, by one `write` for each line.
@@ -54,6 +55,9 @@ ghost use Rattle.zair_text.specs.Writing.{AppendsLines, HasWriteCause};
 ///
 /// `Failed` comes only where the sink's faults rose, and then a prefix of the text went out. After `Memory` whole
 /// lines went out, and not all of them. At every answer but `Failed` the sink's faults are as they were.
+///
+/// A program that was written whole is writable: by the law `one_text_one_program` no other writable list of instructions
+/// has its text.
 pub fn write_program<K: Sink>(
     alloc: Global,
     program: &Program,
@@ -66,6 +70,7 @@ pub fn write_program<K: Sink>(
     ensures memory { IsErrOf result WriteFault.Memory
         → AppendsLines (K.written sink.old) (K.written sink.new) (program_lines program.now) }
     ensures cause { HasWriteCause result (K.faults sink.old) (K.faults sink.new) }
+    ensures writable { OnOk result (AreWritable program.now) }
 {
     write_header(alloc, sink)?;
     write_instrs(alloc, program.instrs(), sink)
@@ -95,6 +100,7 @@ fn write_instrs<K: Sink>(alloc: Global, instrs: &[Instr], sink: &mut K) -> Resul
     ensures memory { IsErrOf result WriteFault.Memory
         → AppendsLines (K.written sink.old) (K.written sink.new) (map instr_line instrs.now) }
     ensures cause { HasWriteCause result (K.faults sink.old) (K.faults sink.new) }
+    ensures writable { OnOk result (AreWritable instrs.now) }
 {
     for instr in instrs {
         let line = line_of(alloc, instr)?;

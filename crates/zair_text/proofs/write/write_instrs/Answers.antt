@@ -1,6 +1,7 @@
 use Rattle.std.proofs.Common.{◌∙◌}
 use Rattle.zair_text.specs.Lines.{instr_line}
 use Rattle.zair_text.proofs.Growing.{lines_before, prefix_at, line_more}
+use Rattle.zair_text.proofs.Writable.{writable_more}
 use Rattle.zair_text.proofs.write.write_instrs.Goals as goal
 
 pub returns-in_err-line-clause-memory : goal.returns-in_err-line-clause-memory
@@ -17,4 +18,5 @@ loop-instr-preserved g c = (
   line_more instr_line c.args.instrs.now c.loop-instr.instr-index c.instr-item.result _ _ _ _ c.loop-instr-test.true c.instr-item.is
       (c.as_slice.ensures ∙ c.in_ok-line.ensures.line) c.loop-instr.invariant.0 c.in_ok-write.ensures.bytes,
   c.in_ok-write.ensures.cause ∙ c.loop-instr.invariant.1,
+  writable_more c.args.instrs.now c.loop-instr.instr-index c.instr-item.result _ c.loop-instr-test.true c.instr-item.is c.requires c.in_ok-line.ensures.reads_back c.loop-instr.invariant.2,
 )
