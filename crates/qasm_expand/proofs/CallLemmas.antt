@@ -14,12 +14,12 @@ use Rattle.qasm_expand.specs.Calls.{Visit}
 use Rattle.qasm_expand.specs.Faults.{IsFault}
 use Rattle.qasm_expand.specs.Items.{Item}
 use Rattle.qasm_expand.specs.Items.Item.{Applied}
-use Rattle.qasm_expand.specs.Limits.{long_angle, long_calls}
+use Rattle.qasm_expand.specs.Limits.{passed_by_angles, passed_by_calls}
 use Rattle.qasm_expand.specs.Native.{ops_on}
 use Rattle.qasm_expand.specs.Replacing.{inner}
-use Rattle.qasm_expand.specs.Walks.{Counts, Writes, OpensFrame, VisitsCall, IsSmall, long_call}
+use Rattle.qasm_expand.specs.Walks.{Counts, Writes, OpensFrame, VisitsCall, IsSmall, passed_by_call}
 use Rattle.qasm_expand.proofs.FaultLemmas.{or_right_none, fault_same}
-use Rattle.qasm_expand.proofs.LimitLemmas.{long_one, long_angle_short}
+use Rattle.qasm_expand.proofs.LimitLemmas.{passed_one, passed_angle_short}
 
 pub on_ok_map : {T E P Q : Type 0} (r : Result T E) → (P → Q) → OnOk r P → OnOk r Q
 on_ok_map (Ok x) f h = f h
@@ -35,7 +35,7 @@ opens_same t before frames angles made qubits chosen after e f g h =
 
 pub applied_visit : (old mid new : Walk) (d : ℕ) (t : Target) (angles : List (List Node)) (qubits : List ℕ) → Counts old mid d angles → Writes mid new (ops_on t angles qubits) → VisitsCall old new (record { depth = d; item = Applied t angles qubits })
 applied_visit old mid new d t angles qubits c w = record {
-  short = long_one old.calls old.nodes (record { depth = d; item = Applied t angles qubits }) ∙ c.short;
+  short = passed_one old.calls old.nodes (record { depth = d; item = Applied t angles qubits }) ∙ c.short;
   counted = w.calls ∙ c.calls;
   nodes = w.nodes ∙ c.nodes;
   ops = w.ops ∙ ap (λ o. o.items ++ ops_on t angles qubits) c.ops;
@@ -49,13 +49,13 @@ call_visit old mid new d depth t angles made qubits chosen not e f g c w =
 -- its angles have at most 256 nodes each
 pub counted_small : (old new : Walk) (d : ℕ) (angles : List (List Node)) → Counts old new d angles → AllByRecursion IsSmall angles
 counted_small old new d angles c =
-    long_angle_short old.nodes angles (or_right_none (long_call old.calls d) (long_angle old.nodes angles) c.short)
+    passed_angle_short old.nodes angles (or_right_none (passed_by_call old.calls d) (passed_by_angles old.nodes angles) c.short)
 
 -- a call that passes a limit
-pub call_fails : (old : Walk) (d depth : ℕ) (t : Target) (angles : List (List Node)) (qubits : List ℕ) (e : ExpandFault) → t ≢ target.Barrier → d ≡ depth → IsFault (option_or (long_call old.calls d) (long_angle old.nodes angles)) e → IsFault (long_calls old.calls old.nodes (record { depth = depth; item = inner t angles qubits } ∷ [])) e
+pub call_fails : (old : Walk) (d depth : ℕ) (t : Target) (angles : List (List Node)) (qubits : List ℕ) (e : ExpandFault) → t ≢ target.Barrier → d ≡ depth → IsFault (option_or (passed_by_call old.calls d) (passed_by_angles old.nodes angles)) e → IsFault (passed_by_calls old.calls old.nodes (record { depth = depth; item = inner t angles qubits } ∷ [])) e
 call_fails old d depth t angles qubits e not same h =
     let v : Item → Visit = λ i. record { depth = depth; item = i } in
-    fault_same (long_calls old.calls old.nodes (v (inner t angles qubits) ∷ [])) (option_or (long_call old.calls d) (long_angle old.nodes angles)) e (ap (λ i. long_calls old.calls old.nodes (v i ∷ [])) (inner_applied t angles qubits not) ∙ long_one old.calls old.nodes (v (Applied t angles qubits)) ∙ ap (λ x. option_or (long_call old.calls x) (long_angle old.nodes angles)) (flip same)) h
+    fault_same (passed_by_calls old.calls old.nodes (v (inner t angles qubits) ∷ [])) (option_or (passed_by_call old.calls d) (passed_by_angles old.nodes angles)) e (ap (λ i. passed_by_calls old.calls old.nodes (v i ∷ [])) (inner_applied t angles qubits not) ∙ passed_one old.calls old.nodes (v (Applied t angles qubits)) ∙ ap (λ x. option_or (passed_by_call old.calls x) (passed_by_angles old.nodes angles)) (flip same)) h
 
 pub chosen_same : (chosen from of places args : List ℕ) → from ≡ of → places ≡ args → chosen ≡ map (λ i. get_or from i 0) places → chosen ≡ map (λ i. get_or of i 0) args
 chosen_same chosen from of places args e f h =

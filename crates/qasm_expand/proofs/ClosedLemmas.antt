@@ -10,7 +10,7 @@ use Rattle.qasm_parse.specs.declared.stmt.Expr.{Expr}
 use Rattle.qasm_parse.specs.declared.stmt.Node.{Node}
 use Rattle.qasm_parse.specs.declared.stmt.Node.TheVariants as node
 use Rattle.qasm_scope.specs.Names.{value_or}
-use Rattle.qasm_expand.specs.Angles.{replaced, put_in}
+use Rattle.qasm_expand.specs.Angles.{replaced, substitute}
 use Rattle.qasm_expand.specs.Walks.{angles_in}
 use Rattle.qasm_expand.specs.AngleNodes.{IsOver, IsExprOver, IsClosed}
 
@@ -38,7 +38,7 @@ replaced_closed params angles same closed (node.Name name at) h = found_closed n
 replaced_closed params angles same closed (node.Number text) h = (h, tt)
 replaced_closed params angles same closed other h = (tt, tt)
 
-put_closed : (params : List (List ℕ)) (angles : List (List Node)) → length angles ≡ length params → AllByRecursion IsClosed angles → (nodes : List Node) → IsExprOver params nodes → IsClosed (put_in (zip params angles) nodes)
+put_closed : (params : List (List ℕ)) (angles : List (List Node)) → length angles ≡ length params → AllByRecursion IsClosed angles → (nodes : List Node) → IsExprOver params nodes → IsClosed (substitute (zip params angles) nodes)
 put_closed params angles same closed [] h = tt
 put_closed params angles same closed (n ∷ nodes) h =
     all_append (IsOver []) _ _ (replaced_closed params angles same closed n h.0) (put_closed params angles same closed nodes h.1)

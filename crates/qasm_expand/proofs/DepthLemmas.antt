@@ -3,7 +3,8 @@ use Rattle.std.proofs.Common.{ℕ, suc, ◌+◌, ◌<◌, ◌≤◌, ◌^◌, ma
 use Rattle.std.specs.List.{AllByRecursion}
 use Rattle.qasm_parse.specs.declared.stmt.Node.{Node}
 use Rattle.qasm_parse.specs.declared.stmt.Node.TheVariants as node
-use Rattle.qasm_expand.specs.Angles.{depths, on_one, on_two, read_node}
+use Rattle.qasm_expand.specs.StackReadings.{on_one, on_two, read_node}
+use Rattle.qasm_expand.specs.AngleReadings.{depths}
 
 abbrev pub AtMost : ℕ → List ℕ → Type 0
 AtMost most ds = AllByRecursion (λ d. d ≤ most) ds

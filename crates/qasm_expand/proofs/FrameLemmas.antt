@@ -3,7 +3,7 @@ use Rattle.std.proofs.Common.{◌≡◌, ℕ, zero, suc, ◌+◌, ◌<◌, ◌�
 use Rattle.std.specs.Prelude.{map, zip, reverse}
 use Rattle.std.specs.List.{AllByRecursion, slice_get}
 use Rattle.std.proofs.lemmas.List.{length-reverse}
-use Rattle.std.proofs.lemmas.Option.{slice_get_read, slice_get_within}
+use Rattle.std.proofs.lemmas.Option.{slice_get_read}
 use Rattle.qasm_parse.specs.declared.stmt.Node.{Node}
 use Rattle.qasm_scope.specs.declared.gate.Bound.{Bound}
 use Rattle.qasm_scope.specs.declared.gate.GateDef.{GateDef}
@@ -13,14 +13,18 @@ use Rattle.qasm_expand.specs.declared.walk.Walk.{Walk}
 use Rattle.qasm_expand.specs.declared.frame.Frame.{Frame}
 use Rattle.qasm_expand.specs.declared.fault.ExpandFault.{ExpandFault}
 use Rattle.qasm_expand.specs.Faults.{IsFault}
-use Rattle.qasm_expand.specs.Limits.{long_calls}
+use Rattle.qasm_expand.specs.Limits.{passed_by_calls}
 use Rattle.qasm_expand.specs.Calls.{Visit, opened, within}
 use Rattle.qasm_expand.specs.Items.{Item}
 use Rattle.qasm_expand.specs.Items.Item.{Applied}
 use Rattle.qasm_expand.specs.Replacing.{inner, body_call, body_of}
 use Rattle.qasm_expand.specs.Walks.{AreFit, OpensFrame, Steps, VisitsCall, VisitsFirst, angles_in, behind_call, call_of, pending, rest_of}
-use Rattle.qasm_expand.specs.AngleNodes.{IsClosed}
-use Rattle.qasm_expand.specs.WellBound.{HasGate, IsFit, IsWellBound, IsWellBoundIn, Suits}
+use Rattle.qasm_parse.specs.declared.stmt.Expr.{Expr}
+use Rattle.qasm_expand.specs.AngleNodes.{IsClosed, IsExprOver}
+use Rattle.qasm_scope.specs.Bound.{IsWellBound}
+use Rattle.qasm_expand.specs.Fit.{IsFit, Suits}
+use Rattle.qasm_expand.specs.Top.{HaveShortNumbers}
+use Rattle.qasm_expand.proofs.BodyLemmas.{BodyCall, body_call_at}
 use Rattle.qasm_expand.proofs.ClosedLemmas.{angles_closed}
 
 some_same : {X : Type 0} {x y : X} → Some x ≡ Some y → x ≡ y
@@ -46,15 +50,10 @@ pub length_map : {X Y : Type 0} (f : X → Y) (xs : List X) → length (map f xs
 length_map f [] = refl
 length_map f (x ∷ xs) = ap suc (length_map f xs)
 
-pub all_at : {X : Type 0} (P : X → Type 0) (xs : List X) (i : ℕ) (x : X) → AllByRecursion P xs → slice_get xs i ≡ Some x → P x
-all_at P [] i x h k = absurd (cc)
-all_at P (y ∷ ys) zero x h k = subst P (some_same k) h.0
-all_at P (y ∷ ys) (suc i) x h k = all_at P ys i x h.1 k
-
-pub gate_at : (gates : List GateDef) (place m n : ℕ) (g : GateDef) → HasGate gates place m n → slice_get gates place ≡ Some g → (m ≡ length g.params) × (n ≡ g.args)
+pub gate_at : (gates : List GateDef) (place m n : ℕ) (g : GateDef) → Suits gates (target.Gate place) m n → slice_get gates place ≡ Some g → (m ≡ length g.params) × (n ≡ g.args)
 gate_at gates place m n g h k =
-    let same : h.gate ≡ g = some_same (flip h.declared_at ∙ k) in
-    (h.with_params ∙ ap (λ (x : GateDef). length x.params) same, h.with_args ∙ ap (λ (x : GateDef). x.args) same)
+    let same : h.1 ≡ g = some_same (flip h.2 ∙ k) in
+    (h.3 ∙ ap (λ (x : GateDef). length x.params) same, h.4 ∙ ap (λ (x : GateDef). x.args) same)
 
 -- the first call that is left of a body, and those behind it
 pub rest_first : (gates : List GateDef) (below : ℕ) (f : Frame) (g : GateDef) (b : Bound) → slice_get gates f.place ≡ Some g → slice_get g.body f.next ≡ Some b → rest_of gates below f ≡ record { depth = suc (suc below); item = body_call (zip g.params f.angles) f.qubits.items b } ∷ rest_of gates below (behind_call f)
@@ -106,12 +105,18 @@ inner_fit gates target.Cx angles qubits closed suits = (closed, suits)
 inner_fit gates target.Cz angles qubits closed suits = (closed, suits)
 
 -- a step that visits a call
-module _ (gates : List GateDef) (bound : IsWellBound gates) (old new : Walk) (f : Frame) (others after : List Frame) (g : GateDef) (b : Bound) (fit : AreFit gates (f ∷ others)) (is : slice_get gates f.place ≡ Some g) (call : slice_get g.body f.next ≡ Some b) where
+module _ (gates : List GateDef) (bound : (place : ℕ) → IsWellBound gates place) (short : HaveShortNumbers gates) (old new : Walk) (f : Frame) (others after : List Frame) (g : GateDef) (b : Bound) (fit : AreFit gates (f ∷ others)) (is : slice_get gates f.place ≡ Some g) (call : slice_get g.body f.next ≡ Some b) where
   of_gate : (length f.angles ≡ length g.params) × (length f.qubits.items ≡ g.args)
   of_gate = gate_at gates f.place _ _ g fit.0.1 is
 
-  of_call : IsWellBoundIn gates g b
-  of_call = all_at (IsWellBoundIn gates g) g.body f.next b (bound.calls f.place g is) call
+  of_call : BodyCall gates g b
+  of_call = body_call_at gates f.place g f.next b bound short is call
+
+  pub call_over : AllByRecursion (λ (e : Expr). IsExprOver g.params e) b.exprs
+  call_over = of_call.over
+
+  pub call_below : AllByRecursion (λ i. i < length f.qubits.items) b.args
+  call_below = subst (λ n. AllByRecursion (λ i. i < n) b.args) (flip of_gate.1) of_call.below
 
   pub call_closed : AllByRecursion IsClosed (angles_in g.params f.angles b.exprs)
   call_closed = angles_closed g.params f.angles b.exprs of_gate.0 fit.0.0 of_call.over
@@ -152,18 +157,18 @@ step_leaves gates walk f others g fit is all = record {
 -- the gate of a call that is fit
 pub gate_read : (gates : List GateDef) (f : Frame) (g : GateDef) → IsFit gates (call_of f) → g ≡ get_or gates f.place g → slice_get gates f.place ≡ Some g
 gate_read gates f g fit is =
-    slice_get_read gates (length gates) f.place g refl (slice_get_within gates f.place fit.1.gate fit.1.declared_at) is
+    slice_get_read gates (length gates) f.place g refl fit.1.0 is
 
 pub call_read : (g : GateDef) (body : List Bound) (i : ℕ) (b : Bound) → body ≡ g.body → i < length body → b ≡ get_or body i b → slice_get g.body i ≡ Some b
 call_read g body i b same lt is =
     subst (λ (bs : List Bound). slice_get bs i ≡ Some b) same (slice_get_read body (length body) i b refl lt is)
 
 -- the first call passes a limit
-pub step_fails : (gates : List GateDef) (old : Walk) (f : Frame) (others : List Frame) (g : GateDef) (b : Bound) (d : ℕ) (e : ExpandFault) → slice_get gates f.place ≡ Some g → slice_get g.body f.next ≡ Some b → d ≡ suc (suc (length others)) → IsFault (long_calls old.calls old.nodes (record { depth = d; item = body_call (zip g.params f.angles) f.qubits.items b } ∷ [])) e → IsFault (long_calls old.calls old.nodes (take 1 (pending gates (f ∷ others)))) e
+pub step_fails : (gates : List GateDef) (old : Walk) (f : Frame) (others : List Frame) (g : GateDef) (b : Bound) (d : ℕ) (e : ExpandFault) → slice_get gates f.place ≡ Some g → slice_get g.body f.next ≡ Some b → d ≡ suc (suc (length others)) → IsFault (passed_by_calls old.calls old.nodes (record { depth = d; item = body_call (zip g.params f.angles) f.qubits.items b } ∷ [])) e → IsFault (passed_by_calls old.calls old.nodes (take 1 (pending gates (f ∷ others)))) e
 step_fails gates old f others g b d e is call same h =
     let item = body_call (zip g.params f.angles) f.qubits.items b in
     let first : take 1 (pending gates (f ∷ others)) ≡ record { depth = suc (suc (length others)); item = item } ∷ [] = ap (λ xs. take 1 (xs ++ pending gates others)) (rest_first gates (length others) f g b is call) in
-    subst (λ xs. IsFault (long_calls old.calls old.nodes xs) e) (flip first) (subst (λ (n : ℕ). IsFault (long_calls old.calls old.nodes (record { depth = n; item = item } ∷ [])) e) same h)
+    subst (λ xs. IsFault (passed_by_calls old.calls old.nodes xs) e) (flip first) (subst (λ (n : ℕ). IsFault (passed_by_calls old.calls old.nodes (record { depth = n; item = item } ∷ [])) e) same h)
 
 -- the number of frames does not depend on their order
 pub depth_of_frames : (frames : List Frame) → length frames + 2 ≡ suc (suc (length (reverse frames)))

@@ -1,5 +1,5 @@
 -- A call that isn't refused has as many angles and arguments as its gate asks for.
-use Rattle.std.proofs.Common.{◌≡◌, ℕ, zero, suc, Bool, true, false, cond, List, [], ◌∷◌, ◌++◌, length, Option, Some, None, refl, sym, subst, codes}
+use Rattle.std.proofs.Common.{◌≡◌, ℕ, zero, suc, Bool, true, false, cond, List, [], ◌∷◌, ◌++◌, length, Option, Some, None, refl, sym, subst, codes, arith, length-append}
 use Rattle.std.specs.List.{AllByRecursion, slice_get}
 use Rattle.std.specs.Map.{lookup}
 use Rattle.std.specs.Option.{option_or}
@@ -19,10 +19,14 @@ use Rattle.qasm_scope.specs.declared.meaning.Meaning.TheVariants as means
 use Rattle.qasm_scope.specs.Names.{Environment, Declarations, meaning, callee, callee_of, target_of, value_or}
 use Rattle.qasm_scope.specs.Environment.{bound_gate, enter, after, opening, nothing, environment}
 use Rattle.qasm_scope.specs.Refusals.{HasOtherParams, HasOtherArity}
-use Rattle.qasm_expand.specs.WellBound.{HasGate, Suits}
+use Rattle.qasm_expand.specs.Fit.{Suits}
 use Rattle.qasm_expand.proofs.EnvironmentLemmas.{after-append}
-use Rattle.qasm_expand.proofs.FineLemmas.{same_number}
+use Rattle.qasm_expand.proofs.AdmissibleLemmas.{same_number}
 use Rattle.qasm_expand.proofs.SoundItems.{all_join, all_mapped}
+
+-- the gate at this place has so many parameters and arguments
+abbrev pub HasGate : List GateDef → ℕ → ℕ → ℕ → Type 0
+HasGate gates place params args = Suits gates (target.Gate place) params args
 
 -- a name that stands for a gate with a body has it
 abbrev pub IsKnown : List GateDef → Meaning → Type 0
@@ -43,12 +47,7 @@ get_last [] x = refl
 get_last (y ∷ xs) x = get_last xs x
 
 pub gate_stays : (gates more : List GateDef) (place params args : ℕ) → HasGate gates place params args → HasGate (gates ++ more) place params args
-gate_stays gates more place params args h = record {
-  gate = h.gate;
-  declared_at = get_append gates more place h.gate h.declared_at;
-  with_params = h.with_params;
-  with_args = h.with_args;
-}
+gate_stays gates more place params args (less, g, at, p, a) = (omega (arith, less, length-append gates more), g, get_append gates more place g at, p, a)
 
 known_stays : (gates more : List GateDef) (m : Meaning) → IsKnown gates m → IsKnown (gates ++ more) m
 known_stays gates more (means.Gate place params args) h = gate_stays gates more place params args h
@@ -58,12 +57,9 @@ all_stay : (gates more : List GateDef) (ds : Declarations) → AllByRecursion (�
 all_stay gates more ds h = all_mapped (λ d. IsKnown gates d.1) (λ d. IsKnown (gates ++ more) d.1) (λ d k. known_stays gates more d.1 k) ds h
 
 new_gate : (e : Environment) (params args : List Named) (body : List BodyOp) → HasGate (e.gates ++ bound_gate e params args body ∷ []) (length e.gates) (length params) (length args)
-new_gate e params args body = record {
-  gate = bound_gate e params args body;
-  declared_at = get_last e.gates (bound_gate e params args body);
-  with_params = sym (length-map params (λ (n : Named). n.word));
-  with_args = refl;
-}
+new_gate e params args body =
+    let g = bound_gate e params args body in
+    (omega (arith, length-append e.gates (g ∷ [])), g, get_last e.gates g, sym (length-map params (λ (n : Named). n.word)), refl)
 
 enter_known : (e : Environment) (s : Stmt) → AreKnown e → AreKnown (enter e s)
 enter_known e (stmt.Qreg name size at) h = record { own = all_join (λ d. IsKnown e.gates d.1) e.own _ h.own (tt, tt); header = h.header }
@@ -125,6 +121,7 @@ IsCallable gates other = Unit {0}
 callee_known : (gates : List GateDef) (o : Option Meaning) → ((x : Meaning) → o ≡ Some x → IsKnown gates x) → IsCallable gates (callee_of o)
 callee_known gates None h = tt
 callee_known gates (Some (means.Gate place params args)) h = h (means.Gate place params args) refl
+callee_known gates (Some means.Native) h = (refl, refl)
 callee_known gates (Some other) h = tt
 
 cond_callable : (gates : List GateDef) (b : Bool) (x y : Callee) → IsCallable gates x → IsCallable gates y → IsCallable gates (cond b x y)
@@ -135,8 +132,8 @@ callee_callable : (e : Environment) (name : List ℕ) → AreKnown e → IsCalla
 callee_callable e name h =
     let last = callee_known e.gates (meaning e name) (meaning_known e name h) in
     let third = cond_callable e.gates (bytes_eq name (codes "barrier")) calls.Barrier (callee_of (meaning e name)) tt last in
-    let second = cond_callable e.gates (bytes_eq name (codes "CX")) (calls.Gate target.Cx 0 2) _ tt third in
-    cond_callable e.gates (bytes_eq name (codes "U")) (calls.Gate target.U 3 1) _ tt second
+    let second = cond_callable e.gates (bytes_eq name (codes "CX")) (calls.Gate target.Cx 0 2) _ (refl, refl) third in
+    cond_callable e.gates (bytes_eq name (codes "U")) (calls.Gate target.U 3 1) _ (refl, refl) second
 
 -- the call of a callee that isn't refused
 suits_callee : (gates : List GateDef) (c : Callee) (call : BodyOp) → IsCallable gates c → (HasOtherParams c call → ⊥) → (HasOtherArity c call → ⊥) → Suits gates (value_or (target_of c) target.Barrier) (length call.exprs) (length call.args)

@@ -3,7 +3,7 @@ use Rattle.std.proofs.Common.{◌≡◌, ℕ, ◌+◌, ◌<◌, true, false, Lis
 use Rattle.std.specs.List.{flat_map}
 use Rattle.std.specs.Option.{option_or}
 use Rattle.std.proofs.lemmas.List.{at_drop_more}
-use Rattle.qasm_expand.specs.Limits.{Passed, beyond, long_literal}
+use Rattle.qasm_expand.specs.Limits.{Passed, beyond, passed_by_literals}
 use Rattle.qasm_expand.specs.declared.fault.LimitKind.TheVariants as limit
 
 pub option_or_assoc : {X : Type 0} (a b c : Option X) → option_or (option_or a b) c ≡ option_or a (option_or b c)
@@ -19,26 +19,26 @@ option_or_none None b h = refl
 option_or_none (Some x) b h = cc
 
 -- the first of two lists, or else that of the second
-pub long_literal-append : (a b : List (List ℕ)) → long_literal (a ++ b) ≡ option_or (long_literal a) (long_literal b)
-long_literal-append [] b = refl
-long_literal-append (text ∷ a) b =
+pub passed_by_literals-append : (a b : List (List ℕ)) → passed_by_literals (a ++ b) ≡ option_or (passed_by_literals a) (passed_by_literals b)
+passed_by_literals-append [] b = refl
+passed_by_literals-append (text ∷ a) b =
     let passed = beyond limit.Literal 40 (length text) in
-    ap (λ r. option_or passed r) (long_literal-append a b) ∙ sym (option_or_assoc passed (long_literal a) (long_literal b))
+    ap (λ r. option_or passed r) (passed_by_literals-append a b) ∙ sym (option_or_assoc passed (passed_by_literals a) (passed_by_literals b))
 
 -- of the parts from place i on, that at i goes first
-pub long_step : {X : Type 0} (f : X → List (List ℕ)) (xs : List X) (i : ℕ) (x : X) → i < length xs → x ≡ get_or xs i x → long_literal (flat_map f (drop i xs)) ≡ option_or (long_literal (f x)) (long_literal (flat_map f (drop (i + 1) xs)))
-long_step f xs i x h is =
+pub passed_step : {X : Type 0} (f : X → List (List ℕ)) (xs : List X) (i : ℕ) (x : X) → i < length xs → x ≡ get_or xs i x → passed_by_literals (flat_map f (drop i xs)) ≡ option_or (passed_by_literals (f x)) (passed_by_literals (flat_map f (drop (i + 1) xs)))
+passed_step f xs i x h is =
     let rest = drop (i + 1) xs in
-    at_drop_more (λ ys. long_literal (flat_map f ys)) xs i x h ∙ ap (λ y. long_literal (f y ++ flat_map f rest)) (sym is) ∙ long_literal-append (f x) (flat_map f rest)
+    at_drop_more (λ ys. passed_by_literals (flat_map f ys)) xs i x h ∙ ap (λ y. passed_by_literals (f y ++ flat_map f rest)) (sym is) ∙ passed_by_literals-append (f x) (flat_map f rest)
 
 -- a part that has one, where those before it have none
-pub long_found : {X : Type 0} (f : X → List (List ℕ)) (xs : List X) (i : ℕ) (x : X) (passed : Option Passed) → i < length xs → x ≡ get_or xs i x → passed ≡ long_literal (f x) → is_some passed ≡ true → long_literal (flat_map f (drop i xs)) ≡ long_literal (flat_map f xs) → passed ≡ long_literal (flat_map f xs)
-long_found f xs i x passed h is found some before =
-    let rest = long_literal (flat_map f (drop (i + 1) xs)) in
-    sym (option_or_some passed rest some) ∙ ap (λ p. option_or p rest) found ∙ sym (long_step f xs i x h is) ∙ before
+pub passed_found : {X : Type 0} (f : X → List (List ℕ)) (xs : List X) (i : ℕ) (x : X) (passed : Option Passed) → i < length xs → x ≡ get_or xs i x → passed ≡ passed_by_literals (f x) → is_some passed ≡ true → passed_by_literals (flat_map f (drop i xs)) ≡ passed_by_literals (flat_map f xs) → passed ≡ passed_by_literals (flat_map f xs)
+passed_found f xs i x passed h is found some before =
+    let rest = passed_by_literals (flat_map f (drop (i + 1) xs)) in
+    sym (option_or_some passed rest some) ∙ ap (λ p. option_or p rest) found ∙ sym (passed_step f xs i x h is) ∙ before
 
 -- a part that has none
-pub long_more : {X : Type 0} (f : X → List (List ℕ)) (xs : List X) (i : ℕ) (x : X) (passed : Option Passed) → i < length xs → x ≡ get_or xs i x → passed ≡ long_literal (f x) → is_some passed ≡ false → long_literal (flat_map f (drop i xs)) ≡ long_literal (flat_map f xs) → long_literal (flat_map f (drop (i + 1) xs)) ≡ long_literal (flat_map f xs)
-long_more f xs i x passed h is found none before =
-    let rest = long_literal (flat_map f (drop (i + 1) xs)) in
-    sym (option_or_none passed rest none) ∙ ap (λ p. option_or p rest) found ∙ sym (long_step f xs i x h is) ∙ before
+pub passed_more : {X : Type 0} (f : X → List (List ℕ)) (xs : List X) (i : ℕ) (x : X) (passed : Option Passed) → i < length xs → x ≡ get_or xs i x → passed ≡ passed_by_literals (f x) → is_some passed ≡ false → passed_by_literals (flat_map f (drop i xs)) ≡ passed_by_literals (flat_map f xs) → passed_by_literals (flat_map f (drop (i + 1) xs)) ≡ passed_by_literals (flat_map f xs)
+passed_more f xs i x passed h is found none before =
+    let rest = passed_by_literals (flat_map f (drop (i + 1) xs)) in
+    sym (option_or_none passed rest none) ∙ ap (λ p. option_or p rest) found ∙ sym (passed_step f xs i x h is) ∙ before

@@ -9,12 +9,12 @@ use Rattle.qasm_scope.specs.Names.{Environment, qubit_size, bit_size, value_or}
 use Rattle.qasm_scope.specs.Environment.{enter, environment}
 use Rattle.qasm_scope.specs.Applications.{Place, times_by, applications, applied}
 use Rattle.qasm_scope.specs.Refusals.{SomeTwo, DifferInSize, ReadsUnevenly}
-use Rattle.qasm_scope.specs.Accepted.{IsFine}
+use Rattle.qasm_scope.specs.Accepted.{IsAdmissible}
 use Rattle.qasm_expand.specs.declared.kind.RegisterKind.TheVariants as register
 use Rattle.qasm_expand.specs.Items.{qubit_count, bit_count, reading, items_of}
 use Rattle.qasm_expand.specs.RegisterKinds.{IsPlaceIn}
 use Rattle.qasm_expand.proofs.EnvironmentLemmas.{IsBare}
-use Rattle.qasm_expand.proofs.FineLemmas.{fine_args, place_of, same_size, places_of}
+use Rattle.qasm_expand.proofs.AdmissibleLemmas.{fine_args, place_of, same_size, places_of}
 use Rattle.qasm_expand.proofs.NumberLemmas.{number-below, number-one}
 use Rattle.qasm_expand.proofs.ReadLemmas.{IsFresh, ReadsSoFar, now_read}
 use Rattle.qasm_expand.proofs.SoundItems.{IsSound, Spares, AllSpare}
@@ -37,15 +37,15 @@ pub record IsGoodReading (header pre all : List Stmt) (from into : Arg) (k : ℕ
   pub qubit : IsPlaceIn register.Qubit all (applied from k)
   pub bit : IsPlaceIn register.Bit all (applied into k)
 
-pub good_reading : (header pre suf : List Stmt) (from into : Arg) (at k : ℕ) → IsBare header → IsFine header pre (stmt.Measure from into at) → k < applications (environment header pre) (from ∷ []) → IsGoodReading header pre (pre ++ suf) from into k
-good_reading header pre suf from into at k bare fine less =
+pub good_reading : (header pre suf : List Stmt) (from into : Arg) (at k : ℕ) → IsBare header → IsAdmissible header pre (stmt.Measure from into at) → k < applications (environment header pre) (from ∷ []) → IsGoodReading header pre (pre ++ suf) from into k
+good_reading header pre suf from into at k bare admissible less =
     let e = environment header pre in
-    let froms = fine_args register.Qubit e (from ∷ []) (λ at h. fine kind.NotDeclared at (inl h)) (λ at h. fine kind.Index at (inl h)) in
-    let intos = fine_args register.Bit e (into ∷ []) (λ at h. fine kind.NotDeclared at (inr h)) (λ at h. fine kind.Index at (inr h)) in
+    let froms = fine_args register.Qubit e (from ∷ []) (λ at h. admissible kind.NotDeclared at (inl h)) (λ at h. admissible kind.Index at (inl h)) in
+    let intos = fine_args register.Bit e (into ∷ []) (λ at h. admissible kind.NotDeclared at (inr h)) (λ at h. admissible kind.Index at (inr h)) in
     let places = places_of header pre suf (from ∷ []) k bare froms (no_two_in_one (DifferInSize e) from) less in
     record {
       qubit = places.0;
-      bit = place_of register.Bit header pre suf into k bare intos.0 (bits_within e from into k froms.0.size intos.0.size from.index into.index froms.0.is intos.0.is (λ h. fine kind.Sizes at (h, refl)) less);
+      bit = place_of register.Bit header pre suf into k bare intos.0 (bits_within e from into k froms.0.size intos.0.size from.index into.index froms.0.is intos.0.is (λ h. admissible kind.Sizes at (h, refl)) less);
     }
 
 -- two applications read two qubits
@@ -63,14 +63,14 @@ readings_spare e all from into a zero within at = tt
 readings_spare e all from into a (suc n) within at =
     (all_map (Spares (reading all from into a)) (reading all from into) (range_with_len (a + 1) n) (all_range (λ k. Spares (reading all from into a) (reading all from into k)) (a + 1) n (λ k low high. reading_spares e all from into a k (omega arith) (within k (omega arith)) (at a (omega arith)) (at k (omega arith)))), readings_spare e all from into (a + 1) n (λ k high. within k (omega arith)) (λ k high. at k (omega arith)))
 
-measure_good : (header pre suf : List Stmt) (from into : Arg) (at : ℕ) → IsBare header → IsFine header pre (stmt.Measure from into at) → AreGood header pre (stmt.Measure from into at) (pre ++ suf) (items_of (environment header pre) (pre ++ suf) (stmt.Measure from into at))
-measure_good header pre suf from into at bare fine =
+measure_good : (header pre suf : List Stmt) (from into : Arg) (at : ℕ) → IsBare header → IsAdmissible header pre (stmt.Measure from into at) → AreGood header pre (stmt.Measure from into at) (pre ++ suf) (items_of (environment header pre) (pre ++ suf) (stmt.Measure from into at))
+measure_good header pre suf from into at bare admissible =
     let e = environment header pre in
     let all = pre ++ suf in
     let s = stmt.Measure from into at in
     let n = applications e (from ∷ []) in
-    let good = λ (k : ℕ) (less : k < n). good_reading header pre suf from into at k bare fine less in
-    let fresh = λ (k : ℕ) (less : k < n). numbers_fresh e pre all k (from ∷ []) ((good k less).qubit, tt) (λ r. fine kind.AfterRead at ((k, less, r), refl)) in
+    let good = λ (k : ℕ) (less : k < n). good_reading header pre suf from into at k bare admissible less in
+    let fresh = λ (k : ℕ) (less : k < n). numbers_fresh e pre all k (from ∷ []) ((good k less).qubit, tt) (λ r. admissible kind.AfterRead at ((k, less, r), refl)) in
     record {
       each = all_map (IsSound (environment header all).gates (qubit_count all) (bit_count all)) (reading all from into) (range_with_len 0 n) (all_range (λ k. IsSound (environment header all).gates (qubit_count all) (bit_count all) (reading all from into k)) 0 n (λ k low high. (number-below register.Qubit all (applied from k) (good k (omega arith)).qubit, number-below register.Bit all (applied into k) (good k (omega arith)).bit)));
       spare = readings_spare e all from into 0 n (λ k high. omega arith) (λ k high. (good k (omega arith)).qubit);
@@ -82,8 +82,8 @@ none_good : (header pre : List Stmt) (s : Stmt) (all : List Stmt) → AreGood he
 none_good header pre s all = record { each = tt; spare = tt; fresh = tt; reads = tt }
 
 -- each statement
-pub statement_good : (header pre suf : List Stmt) (s : Stmt) → IsBare header → IsFine header pre s → AreGood header pre s (pre ++ suf) (items_of (environment header pre) (pre ++ suf) s)
-statement_good header pre suf (stmt.Call call) bare fine = call_good header pre suf call bare fine
-statement_good header pre suf (stmt.Measure from into at) bare fine = measure_good header pre suf from into at bare fine
-statement_good header pre suf (stmt.Barrier args at) bare fine = record { each = (tt, tt); spare = (tt, tt); fresh = (λ q a. absurd a, tt); reads = (tt, tt) }
-statement_good header pre suf other bare fine = none_good header pre other (pre ++ suf)
+pub statement_good : (header pre suf : List Stmt) (s : Stmt) → IsBare header → IsAdmissible header pre s → AreGood header pre s (pre ++ suf) (items_of (environment header pre) (pre ++ suf) s)
+statement_good header pre suf (stmt.Call call) bare admissible = call_good header pre suf call bare admissible
+statement_good header pre suf (stmt.Measure from into at) bare admissible = measure_good header pre suf from into at bare admissible
+statement_good header pre suf (stmt.Barrier args at) bare admissible = record { each = (tt, tt); spare = (tt, tt); fresh = (λ q a. absurd a, tt); reads = (tt, tt) }
+statement_good header pre suf other bare admissible = none_good header pre other (pre ++ suf)

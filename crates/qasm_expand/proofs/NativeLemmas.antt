@@ -1,21 +1,20 @@
 -- What the answer to a program says.
-use Rattle.std.proofs.Common.{◌≡◌, ℕ, Bool, true, false, List, [], ◌⊎◌, inl, inr, Option, Result, Ok, Err, refl, ap, sym, ◌∙◌, subst}
-use Rattle.std.specs.Bool.{OnTrue}
+use Rattle.std.proofs.Common.{◌≡◌, ℕ, List, [], ◌⊎◌, inl, inr, Option, Result, Ok, Err, refl, ap, sym, ◌∙◌, subst}
 use Rattle.std.specs.Result.{IfOk, IfErr, IsErrAnd}
 use Rattle.zac_gates.specs.Ops.{NativeCircuit, IsValid, IsCauseOf}
 use Rattle.zac_gates.specs.declared.circuit.CircuitFault.{CircuitFault}
 use Rattle.zac_gates.specs.declared.circuit.CircuitFault.TheVariants as refused
 use Rattle.zac_gates.specs.declared.circuit.Op.{Op}
 use Rattle.qasm_parse.specs.declared.stmt.Stmt.{Stmt}
-use Rattle.qasm_scope.specs.Accepted.{Program, AreFine}
+use Rattle.qasm_scope.specs.Accepted.{Program, AreAdmissible}
 use Rattle.qasm_scope.specs.Environment.{environment}
 use Rattle.qasm_expand.specs.Answers.{Tells}
 use Rattle.qasm_expand.specs.Expansion.{IsWithinLimits, PassesFirst, IsExpansion}
 use Rattle.qasm_expand.specs.Faults.{IsLimit}
 use Rattle.qasm_expand.specs.Items.{qubit_count, bit_count}
-use Rattle.qasm_expand.specs.Limits.{Passed, long_before_calls}
+use Rattle.qasm_expand.specs.Limits.{Passed, passed_before_calls}
 use Rattle.qasm_expand.specs.Top.{IsWalked}
-use Rattle.qasm_expand.specs.WellBound.{IsWellBound}
+use Rattle.qasm_scope.specs.Bound.{IsWellBound}
 use Rattle.qasm_expand.specs.declared.fault.ExpandFault.{ExpandFault}
 use Rattle.qasm_expand.specs.declared.fault.ExpandFault.TheVariants as fault
 use Rattle.qasm_expand.specs.declared.fault.LimitKind.{LimitKind}
@@ -24,12 +23,8 @@ use Rattle.qasm_expand.proofs.EnvironmentLemmas.{IsBare}
 use Rattle.qasm_expand.proofs.ProgramLemmas.{before_passes, within_passes_none, passes_once, walk_expands}
 use Rattle.qasm_expand.proofs.ValidityLemmas.{expansion_valid}
 
-pub true_gives : {P : Type 0} (b : Bool) → b ≡ true → OnTrue b P → P
-true_gives true h p = p
-true_gives false h p = cc (h)
-
 -- a limit that is passed before the calls
-pub limit_tells : (p : Program) (passed : Option Passed) (e : ExpandFault) → passed ≡ long_before_calls p.statements → IsLimit passed e → Tells p e
+pub limit_tells : (p : Program) (passed : Option Passed) (e : ExpandFault) → passed ≡ passed_before_calls p.statements → IsLimit passed e → Tells p e
 limit_tells p passed (fault.Limit kind count) same h = before_passes p kind count (sym same ∙ h)
 limit_tells p passed fault.Memory same h = absurd h
 
@@ -47,9 +42,9 @@ circuit_is ss own regs q b ops items qs bs same list is =
 pub walked_expansion : (p : Program) (end : Walk) → IsWalked p end → IsExpansion p (circuit_of p.statements end.ops.items)
 walked_expansion p end w = walk_expands p w.start end w.ops w.walks
 
-pub expansion_is_valid : (p : Program) (c : NativeCircuit) → IsBare p.header → AreFine p.header [] p.statements → IsWellBound (environment p.header p.statements).gates → IsExpansion p c → IsValid c
-expansion_is_valid p c bare fine bound x =
-    subst IsValid (sym x.is) (expansion_valid p.header p.statements x.items bare fine bound x.expands)
+pub expansion_is_valid : (p : Program) (c : NativeCircuit) → IsBare p.header → AreAdmissible p.header [] p.statements → ((place : ℕ) → IsWellBound (environment p.header p.statements).gates place) → IsExpansion p c → IsValid c
+expansion_is_valid p c bare admissible bound x =
+    subst IsValid (sym x.is) (expansion_valid p.header p.statements x.items bare admissible bound x.expands)
 
 -- a valid list has no cause to be refused
 pub never_refused : (c : NativeCircuit) (f : CircuitFault) (n : ℕ) → f ≡ refused.Op n → IsCauseOf c f → IsValid c → ⊥

@@ -15,13 +15,13 @@ use Rattle.qasm_expand.specs.declared.fault.ExpandFault.TheVariants as fault
 use Rattle.qasm_expand.specs.Calls.{Visit, Visits, none}
 use Rattle.qasm_expand.specs.Expansion.{IsExpansion, IsWithinLimits, PassesFirst, top_calls}
 use Rattle.qasm_expand.specs.Items.{Item, program_items}
-use Rattle.qasm_expand.specs.Items.Item.{Applied, Fenced, Measured}
-use Rattle.qasm_expand.specs.Limits.{Passed, long_before_calls, long_calls}
+use Rattle.qasm_expand.specs.Items.Item.{Applied, Barrier, Measured}
+use Rattle.qasm_expand.specs.Limits.{Passed, passed_before_calls, passed_by_calls}
 use Rattle.qasm_expand.specs.Native.{native_circuit, native_ops, pairs_in}
 use Rattle.qasm_expand.specs.Replacing.{Expands}
 use Rattle.qasm_expand.specs.Walks.{Passes, Walks, nodes_of}
 use Rattle.qasm_expand.proofs.FaultLemmas.{or_left_none}
-use Rattle.qasm_expand.proofs.LimitLemmas.{long_append}
+use Rattle.qasm_expand.proofs.LimitLemmas.{passed_append}
 use Rattle.qasm_expand.proofs.VisitLemmas.{GoesOn, visits_compare, visits_end}
 use Rattle.qasm_expand.proofs.WalkLemmas.{items_at_depth}
 
@@ -32,27 +32,27 @@ abbrev passed : LimitKind → ℕ → Passed
 passed kind count = (kind, count)
 
 -- calls that pass no limit have no first ones that do
-front_passes_none : (calls nodes : ℕ) (xs ys : List Visit) → long_calls calls nodes (xs ++ ys) ≡ None → long_calls calls nodes xs ≡ None
+front_passes_none : (calls nodes : ℕ) (xs ys : List Visit) → passed_by_calls calls nodes (xs ++ ys) ≡ None → passed_by_calls calls nodes xs ≡ None
 front_passes_none calls nodes xs ys h =
-    or_left_none (long_calls calls nodes xs) (long_calls (calls + length xs) (nodes + nodes_of xs) ys) (flip (long_append calls nodes xs ys) ∙ h)
+    or_left_none (passed_by_calls calls nodes xs) (passed_by_calls (calls + length xs) (nodes + nodes_of xs) ys) (flip (passed_append calls nodes xs ys) ∙ h)
 
 -- a limit that the first calls pass is the one that all pass first
-front_passes : (calls nodes : ℕ) (xs ys : List Visit) (p : Passed) → long_calls calls nodes xs ≡ Some p → long_calls calls nodes (xs ++ ys) ≡ Some p
+front_passes : (calls nodes : ℕ) (xs ys : List Visit) (p : Passed) → passed_by_calls calls nodes xs ≡ Some p → passed_by_calls calls nodes (xs ++ ys) ≡ Some p
 front_passes calls nodes xs ys p h =
-    long_append calls nodes xs ys ∙ ap (λ o. option_or o (long_calls (calls + length xs) (nodes + nodes_of xs) ys)) h
+    passed_append calls nodes xs ys ∙ ap (λ o. option_or o (passed_by_calls (calls + length xs) (nodes + nodes_of xs) ys)) h
 
 -- two visits of the same calls that each come to a limit come to the same
-pub limit_once : (gates : List GateDef) (calls nodes : ℕ) (xs visited left others last : List Visit) (p q : Passed) → Visits gates xs visited left → Visits gates xs others last → long_calls calls nodes visited ≡ Some p → long_calls calls nodes others ≡ Some q → p ≡ q
+pub limit_once : (gates : List GateDef) (calls nodes : ℕ) (xs visited left others last : List Visit) (p q : Passed) → Visits gates xs visited left → Visits gates xs others last → passed_by_calls calls nodes visited ≡ Some p → passed_by_calls calls nodes others ≡ Some q → p ≡ q
 limit_once gates calls nodes xs visited left others last p q h k passes also = by_longer (visits_compare h k)
   where
     by_longer : GoesOn gates visited left others last ⊎ GoesOn gates others last visited left → p ≡ q
     by_longer (inl g) =
-        some_same (flip (front_passes calls nodes visited g.more p passes) ∙ ap (long_calls calls nodes) (flip g.is) ∙ also)
+        some_same (flip (front_passes calls nodes visited g.more p passes) ∙ ap (passed_by_calls calls nodes) (flip g.is) ∙ also)
     by_longer (inr g) =
-        some_same (flip passes ∙ ap (long_calls calls nodes) g.is ∙ front_passes calls nodes others g.more q also)
+        some_same (flip passes ∙ ap (passed_by_calls calls nodes) g.is ∙ front_passes calls nodes others g.more q also)
 
 -- where all visits pass no limit, no visits do
-pub limit_never : (gates : List GateDef) (calls nodes : ℕ) (xs visited others last : List Visit) (p : Passed) → Visits gates xs visited [] → Visits gates xs others last → long_calls calls nodes visited ≡ None → long_calls calls nodes others ≡ Some p → ⊥
+pub limit_never : (gates : List GateDef) (calls nodes : ℕ) (xs visited others last : List Visit) (p : Passed) → Visits gates xs visited [] → Visits gates xs others last → passed_by_calls calls nodes visited ≡ None → passed_by_calls calls nodes others ≡ Some p → ⊥
 limit_never gates calls nodes xs visited others last p h k short passes = by_longer (visits_compare h k)
   where
     differ : None ≡ Some p → ⊥
@@ -60,9 +60,9 @@ limit_never gates calls nodes xs visited others last p h k short passes = by_lon
 
     by_longer : GoesOn gates visited [] others last ⊎ GoesOn gates others last visited [] → ⊥
     by_longer (inl g) =
-        differ (flip short ∙ ap (long_calls calls nodes) (flip (g.is ∙ ap (λ m. visited ++ m) (visits_end g.visits) ∙ append-nil visited)) ∙ passes)
+        differ (flip short ∙ ap (passed_by_calls calls nodes) (flip (g.is ∙ ap (λ m. visited ++ m) (visits_end g.visits) ∙ append-nil visited)) ∙ passes)
     by_longer (inr g) =
-        differ (flip (front_passes_none calls nodes others g.more (ap (long_calls calls nodes) (flip g.is) ∙ short)) ∙ passes)
+        differ (flip (front_passes_none calls nodes others g.more (ap (passed_by_calls calls nodes) (flip g.is) ∙ short)) ∙ passes)
 
 -- a program within the limits passes none, and one passes no two first
 pub within_passes_none : (p : Program) (kind : LimitKind) (count : ℕ) → IsWithinLimits p → PassesFirst p kind count → ⊥
@@ -71,7 +71,7 @@ within_passes_none p kind count w f = by_part f.first
     differ : None ≡ Some (passed kind count) → ⊥
     differ e = cc
 
-    by_part : (long_before_calls p.statements ≡ Some (kind, count)) ⊎ ((long_before_calls p.statements ≡ None) × (long_calls 0 0 f.visited ≡ Some (kind, count))) → ⊥
+    by_part : (passed_before_calls p.statements ≡ Some (kind, count)) ⊎ ((passed_before_calls p.statements ≡ None) × (passed_by_calls 0 0 f.visited ≡ Some (kind, count))) → ⊥
     by_part (inl before) = differ (flip w.before ∙ before)
     by_part (inr (before, calls)) =
         limit_never (environment p.header p.statements).gates 0 0 (top_calls p) w.visited f.visited f.left (kind, count) w.all f.calls w.calls calls
@@ -84,7 +84,7 @@ passes_once p kind other count more f g =
     differ : (x : Passed) → None ≡ Some x → ⊥
     differ x e = cc
 
-    by_parts : (long_before_calls p.statements ≡ Some (kind, count)) ⊎ ((long_before_calls p.statements ≡ None) × (long_calls 0 0 f.visited ≡ Some (kind, count))) → (long_before_calls p.statements ≡ Some (other, more)) ⊎ ((long_before_calls p.statements ≡ None) × (long_calls 0 0 g.visited ≡ Some (other, more))) → passed kind count ≡ passed other more
+    by_parts : (passed_before_calls p.statements ≡ Some (kind, count)) ⊎ ((passed_before_calls p.statements ≡ None) × (passed_by_calls 0 0 f.visited ≡ Some (kind, count))) → (passed_before_calls p.statements ≡ Some (other, more)) ⊎ ((passed_before_calls p.statements ≡ None) × (passed_by_calls 0 0 g.visited ≡ Some (other, more))) → passed kind count ≡ passed other more
     by_parts (inl a) (inl b) = some_same (flip a ∙ b)
     by_parts (inl a) (inr (b, c)) = absurd (differ _ (flip b ∙ a))
     by_parts (inr (a, c)) (inl b) = absurd (differ _ (flip a ∙ b))
@@ -92,13 +92,13 @@ passes_once p kind other count more f g =
         limit_once (environment p.header p.statements).gates 0 0 (top_calls p) f.visited f.left g.visited g.left (kind, count) (other, more) f.calls g.calls c d
 
 -- a limit that is passed before the calls
-pub before_passes : (p : Program) (kind : LimitKind) (count : ℕ) → long_before_calls p.statements ≡ Some (kind, count) → PassesFirst p kind count
+pub before_passes : (p : Program) (kind : LimitKind) (count : ℕ) → passed_before_calls p.statements ≡ Some (kind, count) → PassesFirst p kind count
 before_passes p kind count h = record { visited = []; left = top_calls p; calls = none; first = inl h }
 
 -- a walk over all calls of the top from the start
-module _ (p : Program) (start end : Walk) (calls : start.calls ≡ 0) (nodes : start.nodes ≡ 0) (before : long_before_calls p.statements ≡ None) where
-  from_start : (visited : List Visit) → long_calls start.calls start.nodes visited ≡ long_calls 0 0 visited
-  from_start visited = ap (λ c. long_calls c start.nodes visited) calls ∙ ap (λ n. long_calls 0 n visited) nodes
+module _ (p : Program) (start end : Walk) (calls : start.calls ≡ 0) (nodes : start.nodes ≡ 0) (before : passed_before_calls p.statements ≡ None) where
+  from_start : (visited : List Visit) → passed_by_calls start.calls start.nodes visited ≡ passed_by_calls 0 0 visited
+  from_start visited = ap (λ c. passed_by_calls c start.nodes visited) calls ∙ ap (λ n. passed_by_calls 0 n visited) nodes
 
   pub walk_passes : (kind : LimitKind) (count : ℕ) → Passes (environment p.header p.statements).gates start (top_calls p) (fault.Limit kind count) → PassesFirst p kind count
   walk_passes kind count h = record {
@@ -135,7 +135,7 @@ ops_few (Applied target.Cx [] (c ∷ t ∷ [])) = omega arith
 ops_few (Applied target.Cz [] (a ∷ b ∷ [])) = omega arith
 ops_few (Applied target.Barrier angles qubits) = omega arith
 ops_few (Applied other angles qubits) = omega arith
-ops_few Fenced = omega arith
+ops_few Barrier = omega arith
 ops_few (Measured qubit bit) = omega arith
 
 ops_of_few : (items : List Item) → length (flat_map native_ops items) ≤ 3 * length items
@@ -156,7 +156,7 @@ pairs_few (Applied target.Cx [] (c ∷ t ∷ [])) = omega arith
 pairs_few (Applied target.Cz [] (a ∷ b ∷ [])) = omega arith
 pairs_few (Applied target.Barrier angles qubits) = omega arith
 pairs_few (Applied other angles qubits) = omega arith
-pairs_few Fenced = omega arith
+pairs_few Barrier = omega arith
 pairs_few (Measured qubit bit) = omega arith
 
 pairs_of_few : (items : List Item) → pairs_in (flat_map native_ops items) ≤ length items

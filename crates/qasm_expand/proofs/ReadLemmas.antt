@@ -9,7 +9,7 @@ use Rattle.qasm_scope.specs.Environment.{enter, environment}
 use Rattle.qasm_scope.specs.Applications.{Place, times_by, applications, applied, IsRead}
 use Rattle.qasm_expand.specs.declared.kind.RegisterKind.TheVariants as register
 use Rattle.qasm_expand.specs.Items.{Item, qubit_number}
-use Rattle.qasm_expand.specs.Items.Item.{Applied, Fenced, Measured}
+use Rattle.qasm_expand.specs.Items.Item.{Applied, Barrier, Measured}
 use Rattle.qasm_expand.specs.RegisterKinds.{IsPlaceIn}
 use Rattle.qasm_expand.proofs.EnvironmentLemmas.{IsBare, size_stays, header_is}
 use Rattle.qasm_expand.proofs.GateLemmas.{get_append, get_last}
@@ -77,7 +77,7 @@ IsFresh e before all item = (q : ℕ) → Among q (qubits_of item) → Untouched
 abbrev pub ReadsSoFar : Environment → List Stmt → List Stmt → Item → Type 0
 ReadsSoFar e before all (Measured q bit) = WasRead e before all q
 ReadsSoFar e before all (Applied to angles qubits) = Unit {0}
-ReadsSoFar e before all Fenced = Unit {0}
+ReadsSoFar e before all Barrier = Unit {0}
 
 -- a qubit can't be both
 pub read_or_not : (e : Environment) (before all : List Stmt) (q : ℕ) → WasRead e before all q → Untouched e before all q → ⊥
@@ -88,7 +88,7 @@ read_or_not e before all q r u =
 fresh_spares : (e : Environment) (before all : List Stmt) (x y : Item) → ReadsSoFar e before all x → IsFresh e before all y → Spares x y
 fresh_spares e before all (Measured q bit) y r f = λ a. read_or_not e before all q r (f q a)
 fresh_spares e before all (Applied to angles qubits) y r f = tt
-fresh_spares e before all Fenced y r f = tt
+fresh_spares e before all Barrier y r f = tt
 
 pub fresh_cross : (e : Environment) (before all : List Stmt) (xs ys : List Item) → AllByRecursion (ReadsSoFar e before all) xs → AllByRecursion (IsFresh e before all) ys → Cross xs ys
 fresh_cross e before all [] ys r f = tt

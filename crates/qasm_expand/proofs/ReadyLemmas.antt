@@ -14,22 +14,22 @@ use Rattle.qasm_scope.specs.declared.gate.Bound.{Bound}
 use Rattle.qasm_scope.specs.Names.{Environment, qubit_size, value_or}
 use Rattle.qasm_scope.specs.Environment.{environment}
 use Rattle.qasm_scope.specs.Applications.{applications, times_by}
-use Rattle.qasm_scope.specs.Accepted.{IsFine, AreFine}
+use Rattle.qasm_scope.specs.Accepted.{IsAdmissible, AreAdmissible}
 use Rattle.qasm_scope.specs.Refusals.{UsesOther, UsesOtherIn}
-use Rattle.qasm_scope.specs.Scopes.{AreFineInHeader, IsVersionOrGate}
+use Rattle.qasm_scope.specs.Scopes.{AreAdmissibleInHeader, IsVersionOrGate}
 use Rattle.qasm_expand.specs.declared.kind.RegisterKind.{RegisterKind}
 use Rattle.qasm_expand.specs.declared.kind.RegisterKind.TheVariants as register
 use Rattle.qasm_expand.specs.declared.fault.LimitKind.TheVariants as limit
 use Rattle.qasm_expand.specs.AngleNodes.{IsOver, IsClosed}
-use Rattle.qasm_expand.specs.Limits.{Passed, beyond, literal_of, literals_in, statement_literals, long_literal}
+use Rattle.qasm_expand.specs.Limits.{Passed, beyond, literal_of, literals_in, statement_literals, passed_by_literals}
 use Rattle.qasm_expand.specs.RegisterKinds.{registers_in, registers_of}
 use Rattle.qasm_expand.specs.Sized.{sized}
 use Rattle.qasm_expand.specs.Top.{IsShort, AreShortIn, AreShortBodies}
 use Rattle.qasm_expand.proofs.BeforeLemmas.{both_none, not_beyond}
 use Rattle.qasm_expand.proofs.EnvironmentLemmas.{IsBare, size_declared}
 use Rattle.qasm_expand.proofs.ExtentLemmas.{none_from_test}
-use Rattle.qasm_expand.proofs.FineLemmas.{IsFineArg, any_head, any_tail}
-use Rattle.qasm_expand.proofs.LiteralLemmas.{long_literal-append}
+use Rattle.qasm_expand.proofs.AdmissibleLemmas.{IsAdmissibleArg, any_head, any_tail}
+use Rattle.qasm_expand.proofs.LiteralLemmas.{passed_by_literals-append}
 use Rattle.qasm_expand.proofs.SizedLemmas.{qubit_size-sized}
 
 -- the header declares no registers
@@ -40,59 +40,59 @@ none_of_gate register.Qubit (stmt.Gate name params args body at) h = refl
 none_of_gate register.Bit (stmt.Gate name params args body at) h = refl
 none_of_gate kind other h = absurd h
 
-none_of_header : (before header : List Stmt) (kind : RegisterKind) → AreFineInHeader before header → registers_of kind header ≡ []
+none_of_header : (before header : List Stmt) (kind : RegisterKind) → AreAdmissibleInHeader before header → registers_of kind header ≡ []
 none_of_header before [] kind h = refl
 none_of_header before (s ∷ header) kind h =
     ap (λ r. r ++ registers_of kind header) (none_of_gate kind s h.0.form) ∙ none_of_header (before ++ s ∷ []) header kind h.1
 
-pub header_bare : (header : List Stmt) → AreFineInHeader [] header → IsBare header
+pub header_bare : (header : List Stmt) → AreAdmissibleInHeader [] header → IsBare header
 header_bare header h kind = none_of_header [] header kind h
 
 -- the statement at a place isn't refused behind those before it
 pub record StandsAt (header ss : List Stmt) (i : ℕ) (s : Stmt) : Type 0 where
-  pub fine : IsFine header (take i ss) s
+  pub admissible : IsAdmissible header (take i ss) s
   pub whole : ss ≡ take i ss ++ s ∷ drop (suc i) ss
 
-stands_behind : (header before ss : List Stmt) (i : ℕ) (s : Stmt) → AreFine header before ss → slice_get ss i ≡ Some s → IsFine header (before ++ take i ss) s
+stands_behind : (header before ss : List Stmt) (i : ℕ) (s : Stmt) → AreAdmissible header before ss → slice_get ss i ≡ Some s → IsAdmissible header (before ++ take i ss) s
 stands_behind header before [] i s h at = cc
 stands_behind header before (x ∷ ss) zero s h at =
-    let same : x ≡ s = cc in subst (IsFine header (before ++ [])) same (subst (λ b. IsFine header b x) (sym (append-nil before)) h.0)
+    let same : x ≡ s = cc in subst (IsAdmissible header (before ++ [])) same (subst (λ b. IsAdmissible header b x) (sym (append-nil before)) h.0)
 stands_behind header before (x ∷ ss) (suc i) s h at =
-    subst (λ b. IsFine header b s) (append_assoc before (x ∷ []) (take i ss)) (stands_behind header (before ++ x ∷ []) ss i s h.1 at)
+    subst (λ b. IsAdmissible header b s) (append_assoc before (x ∷ []) (take i ss)) (stands_behind header (before ++ x ∷ []) ss i s h.1 at)
 
 whole_at : (ss : List Stmt) (i : ℕ) (s : Stmt) → slice_get ss i ≡ Some s → ss ≡ take i ss ++ s ∷ drop (suc i) ss
 whole_at [] i s at = cc
 whole_at (x ∷ ss) zero s at = let same : x ≡ s = cc in ap (λ y. y ∷ ss) same
 whole_at (x ∷ ss) (suc i) s at = ap (λ ys. x ∷ ys) (whole_at ss i s at)
 
-pub stands_at : (header ss : List Stmt) (i : ℕ) (s : Stmt) → AreFine header [] ss → slice_get ss i ≡ Some s → StandsAt header ss i s
-stands_at header ss i s h at = record { fine = stands_behind header [] ss i s h at; whole = whole_at ss i s at }
+pub stands_at : (header ss : List Stmt) (i : ℕ) (s : Stmt) → AreAdmissible header [] ss → slice_get ss i ≡ Some s → StandsAt header ss i s
+stands_at header ss i s h at = record { admissible = stands_behind header [] ss i s h at; whole = whole_at ss i s at }
 
 -- short numbers
-pub short_node : (n : Node) → long_literal (literal_of n) ≡ None → IsShort n
+pub short_node : (n : Node) → passed_by_literals (literal_of n) ≡ None → IsShort n
 short_node (node.Number text) h = not_beyond limit.Literal 40 (length text) (both_none (beyond limit.Literal 40 (length text)) None h).first
 short_node other h = tt
 
-short_nodes : (ns : List Node) → long_literal (flat_map literal_of ns) ≡ None → AllByRecursion IsShort ns
+short_nodes : (ns : List Node) → passed_by_literals (flat_map literal_of ns) ≡ None → AllByRecursion IsShort ns
 short_nodes [] h = tt
 short_nodes (n ∷ ns) h =
-    let parts = both_none (long_literal (literal_of n)) (long_literal (flat_map literal_of ns)) (sym (long_literal-append (literal_of n) (flat_map literal_of ns)) ∙ h) in
+    let parts = both_none (passed_by_literals (literal_of n)) (passed_by_literals (flat_map literal_of ns)) (sym (passed_by_literals-append (literal_of n) (flat_map literal_of ns)) ∙ h) in
     (short_node n parts.first, short_nodes ns parts.second)
 
-pub short_exprs : (exprs : List Expr) → long_literal (literals_in exprs) ≡ None → AreShortIn exprs
+pub short_exprs : (exprs : List Expr) → passed_by_literals (literals_in exprs) ≡ None → AreShortIn exprs
 short_exprs [] h = tt
 short_exprs (expr ∷ exprs) h =
-    let parts = both_none (long_literal (flat_map literal_of expr)) (long_literal (literals_in exprs)) (sym (long_literal-append (flat_map literal_of expr) (literals_in exprs)) ∙ h) in
+    let parts = both_none (passed_by_literals (flat_map literal_of expr)) (passed_by_literals (literals_in exprs)) (sym (passed_by_literals-append (flat_map literal_of expr) (literals_in exprs)) ∙ h) in
     (short_nodes expr parts.first, short_exprs exprs parts.second)
 
-short_statement : (ss : List Stmt) (i : ℕ) (s : Stmt) → long_literal (flat_map statement_literals ss) ≡ None → slice_get ss i ≡ Some s → long_literal (statement_literals s) ≡ None
+short_statement : (ss : List Stmt) (i : ℕ) (s : Stmt) → passed_by_literals (flat_map statement_literals ss) ≡ None → slice_get ss i ≡ Some s → passed_by_literals (statement_literals s) ≡ None
 short_statement [] i s h at = cc
 short_statement (x ∷ ss) zero s h at =
     let same : x ≡ s = cc in
-    let parts = both_none (long_literal (statement_literals x)) (long_literal (flat_map statement_literals ss)) (sym (long_literal-append (statement_literals x) (flat_map statement_literals ss)) ∙ h) in
-    ap (λ y. long_literal (statement_literals y)) (sym same) ∙ parts.first
+    let parts = both_none (passed_by_literals (statement_literals x)) (passed_by_literals (flat_map statement_literals ss)) (sym (passed_by_literals-append (statement_literals x) (flat_map statement_literals ss)) ∙ h) in
+    ap (λ y. passed_by_literals (statement_literals y)) (sym same) ∙ parts.first
 short_statement (x ∷ ss) (suc i) s h at =
-    let parts = both_none (long_literal (statement_literals x)) (long_literal (flat_map statement_literals ss)) (sym (long_literal-append (statement_literals x) (flat_map statement_literals ss)) ∙ h) in
+    let parts = both_none (passed_by_literals (statement_literals x)) (passed_by_literals (flat_map statement_literals ss)) (sym (passed_by_literals-append (statement_literals x) (flat_map statement_literals ss)) ∙ h) in
     short_statement ss i s parts.second at
 
 -- angles of a call at the top have no names
@@ -114,26 +114,26 @@ closed_exprs [] short not = tt
 closed_exprs (expr ∷ exprs) short not =
     (closed_nodes expr short.0 (λ at h. not at (any_head (λ (x : Expr). Any (UsesOther [] at) x) expr exprs h)), closed_exprs exprs short.1 (λ at h. not at (any_tail (λ (x : Expr). Any (UsesOther [] at) x) expr exprs h)))
 
-pub call_closed : (header ss : List Stmt) (i : ℕ) (call : BodyOp) → IsFine header (take i ss) (stmt.Call call) → long_literal (flat_map statement_literals ss) ≡ None → slice_get ss i ≡ Some (stmt.Call call) → AllByRecursion IsClosed call.exprs
-call_closed header ss i call fine short at =
-    closed_exprs call.exprs (short_exprs call.exprs (short_statement ss i (stmt.Call call) short at)) (λ at h. fine kind.Name at h)
+pub call_closed : (header ss : List Stmt) (i : ℕ) (call : BodyOp) → IsAdmissible header (take i ss) (stmt.Call call) → passed_by_literals (flat_map statement_literals ss) ≡ None → slice_get ss i ≡ Some (stmt.Call call) → AllByRecursion IsClosed call.exprs
+call_closed header ss i call admissible short at =
+    closed_exprs call.exprs (short_exprs call.exprs (short_statement ss i (stmt.Call call) short at)) (λ at h. admissible kind.Name at h)
 
 -- a call is applied as often as by the program's registers
 times_same : (e : Environment) (ss : List Stmt) (arg : Arg) (index : Option ℕ) (n m : ℕ) → n ≡ m → qubit_size e arg.word ≡ qubit_size (sized ss) arg.word → times_by e arg index n ≡ times_by (sized ss) arg index m
 times_same e ss arg None n m same size = ap (λ o. value_or o 0) size
 times_same e ss arg (Some i) n m same size = same
 
-pub applications_same : (header pre suf : List Stmt) (args : List Arg) → IsBare header → AllByRecursion (IsFineArg register.Qubit (environment header pre)) args → applications (environment header pre) args ≡ applications (sized (pre ++ suf)) args
-applications_same header pre suf [] bare fine = refl
-applications_same header pre suf (arg ∷ args) bare fine =
+pub applications_same : (header pre suf : List Stmt) (args : List Arg) → IsBare header → AllByRecursion (IsAdmissibleArg register.Qubit (environment header pre)) args → applications (environment header pre) args ≡ applications (sized (pre ++ suf)) args
+applications_same header pre suf [] bare admissible = refl
+applications_same header pre suf (arg ∷ args) bare admissible =
     let e = environment header pre in
     let ss = pre ++ suf in
-    let size : qubit_size e arg.word ≡ qubit_size (sized ss) arg.word = fine.0.is ∙ sym (size_declared register.Qubit header pre suf arg.word fine.0.size bare fine.0.is) ∙ sym (qubit_size-sized ss arg.word) in
-    times_same e ss arg arg.index (applications e args) (applications (sized ss) args) (applications_same header pre suf args bare fine.1) size
+    let size : qubit_size e arg.word ≡ qubit_size (sized ss) arg.word = admissible.0.is ∙ sym (size_declared register.Qubit header pre suf arg.word admissible.0.size bare admissible.0.is) ∙ sym (qubit_size-sized ss arg.word) in
+    times_same e ss arg arg.index (applications e args) (applications (sized ss) args) (applications_same header pre suf args bare admissible.1) size
 
 -- one more call of a body has short numbers
-pub short_more : (body : List Bound) (i : ℕ) (b : Bound) (passed : Option Passed) (exprs : List Expr) → i < length body → b ≡ get_or body i b → exprs ≡ b.exprs → passed ≡ long_literal (literals_in exprs) → is_some passed ≡ false → (AreShortBodies (drop i body) → AreShortBodies body) → AreShortBodies (drop (i + 1) body) → AreShortBodies body
+pub short_more : (body : List Bound) (i : ℕ) (b : Bound) (passed : Option Passed) (exprs : List Expr) → i < length body → b ≡ get_or body i b → exprs ≡ b.exprs → passed ≡ passed_by_literals (literals_in exprs) → is_some passed ≡ false → (AreShortBodies (drop i body) → AreShortBodies body) → AreShortBodies (drop (i + 1) body) → AreShortBodies body
 short_more body i b passed exprs less is same found none before rest =
-    let short : AreShortIn b.exprs = short_exprs b.exprs (ap (λ (x : List Expr). long_literal (literals_in x)) (sym same) ∙ sym found ∙ none_from_test passed none) in
+    let short : AreShortIn b.exprs = short_exprs b.exprs (ap (λ (x : List Expr). passed_by_literals (literals_in x)) (sym same) ∙ sym found ∙ none_from_test passed none) in
     let all : AreShortBodies (get_or body i b ∷ drop (i + 1) body) = (subst (λ (x : Bound). AreShortIn x.exprs) is short, rest) in
     before (subst AreShortBodies (sym (drop_more body i b less)) all)

@@ -6,11 +6,12 @@ use Rattle.qasm_scope.specs.declared.gate.Bound.{Bound}
 use Rattle.qasm_scope.specs.declared.gate.GateDef.{GateDef}
 use Rattle.qasm_scope.specs.declared.gate.Target.{Target}
 use Rattle.qasm_scope.specs.declared.gate.Target.TheVariants as target
+use Rattle.qasm_scope.specs.Bound.{Takes, AreApart, IsWellBoundCall, IsWellBound}
+use Rattle.std.proofs.lemmas.List.Elements.{recursion_from_All}
 use Rattle.qasm_expand.specs.Items.{Item}
-use Rattle.qasm_expand.specs.Items.Item.{Applied, Fenced, Measured}
+use Rattle.qasm_expand.specs.Items.Item.{Applied, Barrier, Measured}
 use Rattle.qasm_expand.specs.Replacing.{inner, body_call, body_of, IsPlain, Replaces, Expands}
 use Rattle.qasm_expand.specs.Replacing.Expands.{plain, replaces}
-use Rattle.qasm_expand.specs.WellBound.{Suits, IsApart, IsWellBoundIn, IsWellBound}
 
 -- the number is one of these
 abbrev pub Among : ℕ → List ℕ → Type 0
@@ -18,32 +19,32 @@ Among q [] = ⊥
 Among q (x ∷ xs) = (q ≡ x) ⊎ Among q xs
 
 -- each number comes once
-abbrev pub AreApart : List ℕ → Type 0
-AreApart [] = Unit {0}
-AreApart (x ∷ xs) = AllByRecursion (λ y. x ≢ y) xs × AreApart xs
+abbrev pub AreDistinct : List ℕ → Type 0
+AreDistinct [] = Unit {0}
+AreDistinct (x ∷ xs) = AllByRecursion (λ y. x ≢ y) xs × AreDistinct xs
 
 -- the qubits of a call
 abbrev pub qubits_of : Item → List ℕ
 qubits_of (Applied to angles qubits) = qubits
-qubits_of Fenced = []
+qubits_of Barrier = []
 qubits_of (Measured qubit bit) = qubit ∷ []
 
 -- a gate at this place has so many arguments
-abbrev pub Takes : List GateDef → Target → ℕ → Type 0
-Takes gates (target.Gate place) args = (g : GateDef) → slice_get gates place ≡ Some g → args ≡ g.args
-Takes gates other args = Unit {0}
+abbrev pub TakesQubits : List GateDef → Target → ℕ → Type 0
+TakesQubits gates (target.Gate place) args = (g : GateDef) → slice_get gates place ≡ Some g → args ≡ g.args
+TakesQubits gates other args = Unit {0}
 
 -- its qubits and bit are in range, its qubits are distinct, and as many as its gate asks for
 abbrev pub IsSound : List GateDef → ℕ → ℕ → Item → Type 0
-IsSound gates n m (Applied to angles qubits) = AllByRecursion (λ q. q < n) qubits × (AreApart qubits × Takes gates to (length qubits))
-IsSound gates n m Fenced = Unit {0}
+IsSound gates n m (Applied to angles qubits) = AllByRecursion (λ q. q < n) qubits × (AreDistinct qubits × TakesQubits gates to (length qubits))
+IsSound gates n m Barrier = Unit {0}
 IsSound gates n m (Measured qubit bit) = (qubit < n) × (bit < m)
 
 -- the later call has no qubit that the earlier one reads
 abbrev pub Spares : Item → Item → Type 0
 Spares (Measured qubit bit) later = Among qubit (qubits_of later) → ⊥
 Spares (Applied to angles qubits) later = Unit {0}
-Spares Fenced later = Unit {0}
+Spares Barrier later = Unit {0}
 
 abbrev pub AllSpare : List Item → Type 0
 AllSpare [] = Unit {0}
@@ -113,7 +114,7 @@ all_among P [] h q a = absurd a
 all_among P (x ∷ xs) h q (inl e) = subst P (sym e) h.0
 all_among P (x ∷ xs) h q (inr a) = all_among P xs h.1 q a
 
-apart_at : (xs : List ℕ) (i j : ℕ) → AreApart xs → i < length xs → j < length xs → i ≢ j → get_or xs i 0 ≢ get_or xs j 0
+apart_at : (xs : List ℕ) (i j : ℕ) → AreDistinct xs → i < length xs → j < length xs → i ≢ j → get_or xs i 0 ≢ get_or xs j 0
 apart_at [] i j h a b ne e = omega arith
 apart_at (x ∷ xs) zero zero h a b ne e = ne refl
 apart_at (x ∷ xs) zero (suc j) h a b ne e = all_among (λ y. x ≢ y) xs h.0 (get_or xs j 0) (among_at xs j (omega arith)) e
@@ -125,11 +126,11 @@ chosen_all : (P : ℕ → Type 0) (qubits places : List ℕ) → AllByRecursion 
 chosen_all P qubits [] h below = tt
 chosen_all P qubits (i ∷ places) h below = (all_among P qubits h (get_or qubits i 0) (among_at qubits i below.0), chosen_all P qubits places h below.1)
 
-chosen_others : (qubits places : List ℕ) (i : ℕ) → AreApart qubits → i < length qubits → AllByRecursion (λ j. j < length qubits) places → AllByRecursion (λ j. i ≢ j) places → AllByRecursion (λ y. get_or qubits i 0 ≢ y) (map (λ j. get_or qubits j 0) places)
+chosen_others : (qubits places : List ℕ) (i : ℕ) → AreDistinct qubits → i < length qubits → AllByRecursion (λ j. j < length qubits) places → AllByRecursion (λ j. i ≢ j) places → AllByRecursion (λ y. get_or qubits i 0 ≢ y) (map (λ j. get_or qubits j 0) places)
 chosen_others qubits [] i h a below ne = tt
 chosen_others qubits (j ∷ places) i h a below ne = (apart_at qubits i j h a below.0 ne.0, chosen_others qubits places i h a below.1 ne.1)
 
-chosen_apart : (qubits places : List ℕ) → AreApart qubits → AllByRecursion (λ i. i < length qubits) places → AreApart places → AreApart (map (λ i. get_or qubits i 0) places)
+chosen_apart : (qubits places : List ℕ) → AreDistinct qubits → AllByRecursion (λ i. i < length qubits) places → AreDistinct places → AreDistinct (map (λ i. get_or qubits i 0) places)
 chosen_apart qubits [] h below apart = tt
 chosen_apart qubits (i ∷ places) h below apart = (chosen_others qubits places i h below.0 below.1 apart.0, chosen_apart qubits places h below.1 apart.1)
 
@@ -143,7 +144,7 @@ all_by_index : (P : ℕ → Type 0) (xs : List ℕ) → ((j : ℕ) (d : ℕ) →
 all_by_index P [] h = tt
 all_by_index P (x ∷ xs) h = (h 0 0 (omega arith), all_by_index P xs (λ j d b. h (suc j) d (omega arith)))
 
-pub apart_from_pairs : (xs : List ℕ) → AllPairs (λ a b. a ≢ b) xs → AreApart xs
+pub apart_from_pairs : (xs : List ℕ) → AllPairs (λ a b. a ≢ b) xs → AreDistinct xs
 apart_from_pairs [] h = tt
 apart_from_pairs (x ∷ xs) h =
     (all_by_index (λ y. x ≢ y) xs (λ j d b. h 0 (suc j) d (omega arith) (omega arith)), apart_from_pairs xs (λ i j d a b. h (suc i) (suc j) d (omega arith) (omega arith)))
@@ -152,21 +153,21 @@ length_chosen : (qubits places : List ℕ) → length (map (λ i. get_or qubits 
 length_chosen qubits [] = refl
 length_chosen qubits (i ∷ places) = ap suc (length_chosen qubits places)
 
-pub takes_from_suits : (gates : List GateDef) (t : Target) (params args : ℕ) → Suits gates t params args → Takes gates t args
-takes_from_suits gates (target.Gate place) params args h = λ g at. let same : h.gate ≡ g = cc (h.declared_at, at) in h.with_args ∙ ap (λ (x : GateDef). x.args) same
-takes_from_suits gates target.U params args h = tt
-takes_from_suits gates target.Cx params args h = tt
-takes_from_suits gates target.Cz params args h = tt
-takes_from_suits gates target.Barrier params args h = tt
+pub takes_qubits : (gates : List GateDef) (place params args : ℕ) (t : Target) → Takes gates place params args t → TakesQubits gates t args
+takes_qubits gates place params args (target.Gate p) h = λ g at. let same : h.1 ≡ g = cc (h.2, at) in h.4 ∙ ap (λ (x : GateDef). x.args) same
+takes_qubits gates place params args target.U h = tt
+takes_qubits gates place params args target.Cx h = tt
+takes_qubits gates place params args target.Cz h = tt
+takes_qubits gates place params args target.Barrier h = tt
 
-inner_applied : (gates : List GateDef) (n m : ℕ) (t : Target) (angles : List (List Node)) (qubits places : List ℕ) → AllByRecursion (λ q. q < n) qubits → AreApart qubits → AllByRecursion (λ i. i < length qubits) places → AreApart places → Takes gates t (length places) → IsInner gates n m qubits (Applied t angles (map (λ i. get_or qubits i 0) places))
+inner_applied : (gates : List GateDef) (n m : ℕ) (t : Target) (angles : List (List Node)) (qubits places : List ℕ) → AllByRecursion (λ q. q < n) qubits → AreDistinct qubits → AllByRecursion (λ i. i < length qubits) places → AreDistinct places → TakesQubits gates t (length places) → IsInner gates n m qubits (Applied t angles (map (λ i. get_or qubits i 0) places))
 inner_applied gates n m t angles qubits places low apart below distinct takes = record {
-  sound = (chosen_all (λ q. q < n) qubits places low below, (chosen_apart qubits places apart below distinct, subst (Takes gates t) (sym (length_chosen qubits places)) takes));
+  sound = (chosen_all (λ q. q < n) qubits places low below, (chosen_apart qubits places apart below distinct, subst (TakesQubits gates t) (sym (length_chosen qubits places)) takes));
   some = chosen_among qubits places below;
   spares = λ later. tt;
 }
 
-inner_is : (gates : List GateDef) (n m : ℕ) (t : Target) (angles : List (List Node)) (qubits places : List ℕ) → AllByRecursion (λ q. q < n) qubits → AreApart qubits → AllByRecursion (λ i. i < length qubits) places → IsApart t places → Takes gates t (length places) → IsInner gates n m qubits (inner t angles (map (λ i. get_or qubits i 0) places))
+inner_is : (gates : List GateDef) (n m : ℕ) (t : Target) (angles : List (List Node)) (qubits places : List ℕ) → AllByRecursion (λ q. q < n) qubits → AreDistinct qubits → AllByRecursion (λ i. i < length qubits) places → AreApart places t → TakesQubits gates t (length places) → IsInner gates n m qubits (inner t angles (map (λ i. get_or qubits i 0) places))
 inner_is gates n m target.Barrier angles qubits places low apart below distinct takes = record { sound = tt; some = λ q a. absurd a; spares = λ later. tt }
 inner_is gates n m (target.Gate place) angles qubits places low apart below distinct takes = inner_applied gates n m (target.Gate place) angles qubits places low apart below (apart_from_pairs places distinct) takes
 inner_is gates n m target.U angles qubits places low apart below distinct takes = inner_applied gates n m target.U angles qubits places low apart below (apart_from_pairs places distinct) takes
@@ -174,17 +175,17 @@ inner_is gates n m target.Cx angles qubits places low apart below distinct takes
 inner_is gates n m target.Cz angles qubits places low apart below distinct takes = inner_applied gates n m target.Cz angles qubits places low apart below (apart_from_pairs places distinct) takes
 
 -- each call of the body
-body_is : (gates : List GateDef) (n m : ℕ) (g : GateDef) (put : List (List ℕ × List Node)) (qubits : List ℕ) (body : List Bound) → AllByRecursion (λ q. q < n) qubits → AreApart qubits → length qubits ≡ g.args → AllByRecursion (IsWellBoundIn gates g) body → AllByRecursion (IsInner gates n m qubits) (map (body_call put qubits) body)
-body_is gates n m g put qubits [] low apart same h = tt
-body_is gates n m g put qubits (b ∷ body) low apart same h =
-    let below : AllByRecursion (λ i. i < length qubits) b.args = subst (λ k. AllByRecursion (λ i. i < k) b.args) (sym same) h.0.below in
-    (inner_is gates n m b.target _ qubits b.args low apart below h.0.apart (takes_from_suits gates b.target (length b.exprs) (length b.args) h.0.suits), body_is gates n m g put qubits body low apart same h.1)
+body_is : (gates : List GateDef) (n m place : ℕ) (g : GateDef) (put : List (List ℕ × List Node)) (qubits : List ℕ) (body : List Bound) → AllByRecursion (λ q. q < n) qubits → AreDistinct qubits → length qubits ≡ g.args → AllByRecursion (IsWellBoundCall gates place g) body → AllByRecursion (IsInner gates n m qubits) (map (body_call put qubits) body)
+body_is gates n m place g put qubits [] low apart same h = tt
+body_is gates n m place g put qubits (b ∷ body) low apart same h =
+    let below : AllByRecursion (λ i. i < length qubits) b.args = subst (λ k. AllByRecursion (λ i. i < k) b.args) (sym same) (recursion_from_All (λ i. i < g.args) b.args h.0.within) in
+    (inner_is gates n m b.target _ qubits b.args low apart below h.0.apart (takes_qubits gates place (length b.exprs) (length b.args) b.target h.0.takes), body_is gates n m place g put qubits body low apart same h.1)
 
 -- an earlier call that spares the call spares those of its body
 spares_inner : (gates : List GateDef) (n m : ℕ) (t : Target) (angles : List (List Node)) (qubits : List ℕ) (x y : Item) → Spares x (Applied t angles qubits) → IsInner gates n m qubits y → Spares x y
 spares_inner gates n m t angles qubits (Measured q bit) y h i = λ a. h (i.some q a)
 spares_inner gates n m t angles qubits (Applied u b c) y h i = tt
-spares_inner gates n m t angles qubits Fenced y h i = tt
+spares_inner gates n m t angles qubits Barrier y h i = tt
 
 spares_body : (gates : List GateDef) (n m : ℕ) (t : Target) (angles : List (List Node)) (qubits : List ℕ) (xs ys : List Item) → AllByRecursion (λ x. Spares x (Applied t angles qubits)) xs → AllByRecursion (IsInner gates n m qubits) ys → Cross xs ys
 spares_body gates n m t angles qubits [] ys h i = tt
@@ -218,11 +219,11 @@ one_replaced gates n m t angles qubits front body rest h inside =
       spare = spare_join front (body ++ rest) (spare_front front (item ∷ rest) h.spare) (spare_join body rest (body_spare gates n m qubits body inside) behind.1 (body_spares gates n m qubits body rest inside)) (cross_join front body rest (spares_body gates n m t angles qubits front body (cross_head front item rest cross) inside) (cross_tail front item rest cross));
     }
 
-replaced_sound : (gates : List GateDef) (n m : ℕ) (old new : List Item) → IsWellBound gates → Replaces gates old new → AreSound gates n m old → AreSound gates n m new
+replaced_sound : (gates : List GateDef) (n m : ℕ) (old new : List Item) → ((place : ℕ) → IsWellBound gates place) → Replaces gates old new → AreSound gates n m old → AreSound gates n m new
 replaced_sound gates n m old new w r h =
     let before : AreSound gates n m (r.front ++ Applied (target.Gate r.place) r.angles r.qubits ∷ r.rest) = subst (AreSound gates n m) r.is h in
     let called = (all_back (IsSound gates n m) r.front (Applied (target.Gate r.place) r.angles r.qubits ∷ r.rest) before.each).0 in
-    let inside = body_is gates n m r.gate _ r.qubits r.gate.body called.0 called.1.0 (called.1.1 r.gate r.declared_at) (w.calls r.place r.gate r.declared_at) in
+    let inside = body_is gates n m r.place r.gate _ r.qubits r.gate.body called.0 called.1.0 (called.1.1 r.gate r.declared_at) (recursion_from_All (IsWellBoundCall gates r.place r.gate) r.gate.body (w r.place r.gate r.declared_at)) in
     subst (AreSound gates n m) (sym r.becomes) (one_replaced gates n m (target.Gate r.place) r.angles r.qubits r.front (body_of r.gate r.angles r.qubits) r.rest before inside)
 
 -- what calls expand to
@@ -230,6 +231,6 @@ pub record ArePlain (gates : List GateDef) (n m : ℕ) (items : List Item) : Typ
   pub plain : AllByRecursion IsPlain items
   pub sound : AreSound gates n m items
 
-pub expanded_sound : (gates : List GateDef) (n m : ℕ) (old items : List Item) → IsWellBound gates → Expands gates old items → AreSound gates n m old → ArePlain gates n m items
+pub expanded_sound : (gates : List GateDef) (n m : ℕ) (old items : List Item) → ((place : ℕ) → IsWellBound gates place) → Expands gates old items → AreSound gates n m old → ArePlain gates n m items
 expanded_sound gates n m old items w (plain p) h = record { plain = p; sound = h }
 expanded_sound gates n m old items w (replaces {new = new} r e) h = expanded_sound gates n m new items w e (replaced_sound gates n m old new w r h)

@@ -10,9 +10,9 @@ use Rattle.qasm_scope.specs.declared.gate.GateDef.{GateDef}
 use Rattle.qasm_scope.specs.declared.gate.Target.{Target}
 use Rattle.qasm_scope.specs.declared.gate.Target.TheVariants as target
 use Rattle.qasm_expand.specs.Items.{Item, qubit_count, bit_count}
-use Rattle.qasm_expand.specs.Items.Item.{Applied, Fenced, Measured}
+use Rattle.qasm_expand.specs.Items.Item.{Applied, Barrier, Measured}
 use Rattle.qasm_expand.specs.Native.{ops_on, native_ops, native_circuit}
-use Rattle.qasm_expand.proofs.SoundItems.{Among, AreApart, qubits_of, IsSound, Spares, AllSpare, AreSound, all_among, all_join, all_mapped, all_of}
+use Rattle.qasm_expand.proofs.SoundItems.{Among, AreDistinct, qubits_of, IsSound, Spares, AllSpare, AreSound, all_among, all_join, all_mapped, all_of}
 
 -- the op is on these qubits, and reads none
 abbrev pub IsOn : List ℕ → Op → Type 0
@@ -21,7 +21,7 @@ IsOn qubits (Two a b) = Among a qubits × (Among b qubits × (a ≢ b))
 IsOn qubits Fence = Unit {0}
 IsOn qubits (Read q bit) = ⊥
 
-ops_on_these : (t : Target) (angles : List (List Node)) (qubits : List ℕ) → AreApart qubits → AllByRecursion (IsOn qubits) (ops_on t angles qubits)
+ops_on_these : (t : Target) (angles : List (List Node)) (qubits : List ℕ) → AreDistinct qubits → AllByRecursion (IsOn qubits) (ops_on t angles qubits)
 ops_on_these target.U (theta ∷ phi ∷ lambda ∷ []) (q ∷ []) h = (inl refl, tt)
 ops_on_these target.Cx [] (c ∷ t ∷ []) h = (inr (inl refl), ((inl refl, (inr (inl refl), h.0.0)), (inr (inl refl), tt)))
 ops_on_these target.Cz [] (a ∷ b ∷ []) h = ((inl refl, (inr (inl refl), h.0.0)), tt)
@@ -68,22 +68,22 @@ on_spare qubits (a ∷ ops) h = (all_of (SparesOp a) (on_spares qubits a h.0) op
 -- the ops of one call
 item_in_range : (gates : List GateDef) (n m : ℕ) (x : Item) → IsSound gates n m x → AllByRecursion (IsInRange n m) (native_ops x)
 item_in_range gates n m (Applied to angles qubits) h = all_mapped (IsOn qubits) (IsInRange n m) (on_in_range n m qubits h.0) (ops_on to angles qubits) (ops_on_these to angles qubits h.1.0)
-item_in_range gates n m Fenced h = (tt, tt)
+item_in_range gates n m Barrier h = (tt, tt)
 item_in_range gates n m (Measured q bit) h = ((h.0, h.1), tt)
 
 item_spare : (gates : List GateDef) (n m : ℕ) (x : Item) → IsSound gates n m x → AllSpareOps (native_ops x)
 item_spare gates n m (Applied to angles qubits) h = on_spare qubits (ops_on to angles qubits) (ops_on_these to angles qubits h.1.0)
-item_spare gates n m Fenced h = (tt, tt)
+item_spare gates n m Barrier h = (tt, tt)
 item_spare gates n m (Measured q bit) h = (tt, tt)
 
 item_names : (gates : List GateDef) (n m : ℕ) (y : Item) (q : ℕ) → IsSound gates n m y → (Among q (qubits_of y) → ⊥) → AllByRecursion (λ b. Names b q → ⊥) (native_ops y)
 item_names gates n m (Applied to angles qubits) q h not = all_mapped (IsOn qubits) (λ b. Names b q → ⊥) (λ b on e. not (on_names qubits b q on e)) (ops_on to angles qubits) (ops_on_these to angles qubits h.1.0)
-item_names gates n m Fenced q h not = (λ e. e, tt)
+item_names gates n m Barrier q h not = (λ e. e, tt)
 item_names gates n m (Measured p bit) q h not = (λ e. not (inl (sym e)), tt)
 
 item_cross : (gates : List GateDef) (n m : ℕ) (x y : Item) → IsSound gates n m x → IsSound gates n m y → Spares x y → CrossOps (native_ops x) (native_ops y)
 item_cross gates n m (Applied to angles qubits) y h k s = all_mapped (IsOn qubits) (λ a. AllByRecursion (SparesOp a) (native_ops y)) (λ a on. all_of (SparesOp a) (on_spares qubits a on) (native_ops y)) (ops_on to angles qubits) (ops_on_these to angles qubits h.1.0)
-item_cross gates n m Fenced y h k s = (all_of (SparesOp Fence) (λ later. tt) (native_ops y), tt)
+item_cross gates n m Barrier y h k s = (all_of (SparesOp Fence) (λ later. tt) (native_ops y), tt)
 item_cross gates n m (Measured q bit) y h k s = (item_names gates n m y q k s, tt)
 
 -- and of several

@@ -12,17 +12,17 @@ use Rattle.qasm_scope.specs.Names.{Environment}
 use Rattle.qasm_scope.specs.Environment.{enter, environment}
 use Rattle.qasm_scope.specs.Applications.{applications, applied, IsRead}
 use Rattle.qasm_scope.specs.Refusals.{SomeTwo, DifferInSize, RepeatsQubit, TouchesRead}
-use Rattle.qasm_scope.specs.Accepted.{IsFine}
+use Rattle.qasm_scope.specs.Accepted.{IsAdmissible}
 use Rattle.qasm_expand.specs.declared.kind.RegisterKind.TheVariants as register
 use Rattle.qasm_expand.specs.Items.{Item, qubit_number, qubit_count, bit_count, application, items_of}
 use Rattle.qasm_expand.specs.RegisterKinds.{IsPlaceIn}
-use Rattle.qasm_expand.specs.WellBound.{Suits}
+use Rattle.qasm_expand.specs.Fit.{Suits}
 use Rattle.qasm_expand.proofs.EnvironmentLemmas.{IsBare}
-use Rattle.qasm_expand.proofs.FineLemmas.{IsFineArg, fine_args, any_head, any_tail, places_of, numbers_apart}
+use Rattle.qasm_expand.proofs.AdmissibleLemmas.{IsAdmissibleArg, fine_args, any_head, any_tail, places_of, numbers_apart}
 use Rattle.qasm_expand.proofs.GateLemmas.{target_in, call_suits}
 use Rattle.qasm_expand.proofs.NumberLemmas.{number-below}
 use Rattle.qasm_expand.proofs.ReadLemmas.{Untouched, IsFresh, ReadsSoFar}
-use Rattle.qasm_expand.proofs.SoundItems.{Among, Takes, IsSound, Spares, AllSpare, takes_from_suits, all_of}
+use Rattle.qasm_expand.proofs.SoundItems.{Among, TakesQubits, IsSound, Spares, AllSpare, takes_qubits, all_of}
 
 -- the numbers from one on
 pub all_range : (P : ℕ → Type 0) (a n : ℕ) → ((k : ℕ) → a ≤ k → k < a + n → P k) → AllByRecursion P (range_with_len a n)
@@ -63,16 +63,16 @@ pub record IsGoodCall (header pre : List Stmt) (all : List Stmt) (item : Item) :
   pub sound : IsSound (environment header all).gates (qubit_count all) (bit_count all) item
   pub fresh : IsFresh (environment header pre) pre all item
 
-good_call : (header pre suf : List Stmt) (call : BodyOp) (k : ℕ) → IsBare header → AllByRecursion (IsFineArg register.Qubit (environment header pre)) call.args → (SomeTwo (DifferInSize (environment header pre)) call.args → ⊥) → (RepeatsQubit (environment header pre) call.args → ⊥) → (TouchesRead (environment header pre) pre call.args → ⊥) → Suits (environment header (pre ++ suf)).gates (target_in (environment header pre) call) (length call.exprs) (length call.args) → k < applications (environment header pre) call.args → IsGoodCall header pre (pre ++ suf) (application (pre ++ suf) (target_in (environment header pre) call) call k)
-good_call header pre suf call k bare fine sizes repeated touched suits less =
+good_call : (header pre suf : List Stmt) (call : BodyOp) (k : ℕ) → IsBare header → AllByRecursion (IsAdmissibleArg register.Qubit (environment header pre)) call.args → (SomeTwo (DifferInSize (environment header pre)) call.args → ⊥) → (RepeatsQubit (environment header pre) call.args → ⊥) → (TouchesRead (environment header pre) pre call.args → ⊥) → Suits (environment header (pre ++ suf)).gates (target_in (environment header pre) call) (length call.exprs) (length call.args) → k < applications (environment header pre) call.args → IsGoodCall header pre (pre ++ suf) (application (pre ++ suf) (target_in (environment header pre) call) call k)
+good_call header pre suf call k bare admissible sizes repeated touched suits less =
     let e = environment header pre in
     let all = pre ++ suf in
     let gates = (environment header all).gates in
     let t = target_in e call in
-    let places = places_of header pre suf call.args k bare fine sizes less in
-    let takes = takes_from_suits gates t (length call.exprs) (length call.args) suits in
+    let places = places_of header pre suf call.args k bare admissible sizes less in
+    let takes = takes_qubits gates (length gates) (length call.exprs) (length call.args) t suits in
     record {
-      sound = (numbers_below all k call.args places, (numbers_apart all call.args k places (λ two. repeated (k, less, two)), subst (Takes gates t) (sym (length-map call.args (numbered all k))) takes));
+      sound = (numbers_below all k call.args places, (numbers_apart all call.args k places (λ two. repeated (k, less, two)), subst (TakesQubits gates t) (sym (length-map call.args (numbered all k))) takes));
       fresh = numbers_fresh e pre all k call.args places (λ r. touched (k, less, r));
     }
 
@@ -80,16 +80,16 @@ calls_spare : (all : List Stmt) (t : Target) (call : BodyOp) (ks : List ℕ) →
 calls_spare all t call [] = tt
 calls_spare all t call (k ∷ ks) = (all_of (Spares (application all t call k)) (λ y. tt) (map (application all t call) ks), calls_spare all t call ks)
 
-pub call_good : (header pre suf : List Stmt) (call : BodyOp) → IsBare header → IsFine header pre (stmt.Call call) → AreGood header pre (stmt.Call call) (pre ++ suf) (items_of (environment header pre) (pre ++ suf) (stmt.Call call))
-call_good header pre suf call bare fine =
+pub call_good : (header pre suf : List Stmt) (call : BodyOp) → IsBare header → IsAdmissible header pre (stmt.Call call) → AreGood header pre (stmt.Call call) (pre ++ suf) (items_of (environment header pre) (pre ++ suf) (stmt.Call call))
+call_good header pre suf call bare admissible =
     let e = environment header pre in
     let all = pre ++ suf in
     let s = stmt.Call call in
     let t = target_in e call in
     let n = applications e call.args in
-    let args = fine_args register.Qubit e call.args (λ at h. fine kind.NotDeclared at (inl h)) (λ at h. fine kind.Index at (inl h)) in
-    let suits = call_suits header pre suf call (λ h. fine kind.Params call.at (0, call, omega arith, refl, (h, refl))) (λ h. fine kind.Arity call.at (0, call, omega arith, refl, (h, refl))) in
-    let good = λ (k : ℕ) (less : k < n). good_call header pre suf call k bare args (λ h. fine kind.Sizes call.at (h, refl)) (λ h. fine kind.Repeated call.at (h, refl)) (λ h. fine kind.AfterRead call.at (h, refl)) suits less in
+    let args = fine_args register.Qubit e call.args (λ at h. admissible kind.NotDeclared at (inl h)) (λ at h. admissible kind.Index at (inl h)) in
+    let suits = call_suits header pre suf call (λ h. admissible kind.Params call.at (0, call, omega arith, refl, (h, refl))) (λ h. admissible kind.Arity call.at (0, call, omega arith, refl, (h, refl))) in
+    let good = λ (k : ℕ) (less : k < n). good_call header pre suf call k bare args (λ h. admissible kind.Sizes call.at (h, refl)) (λ h. admissible kind.Repeated call.at (h, refl)) (λ h. admissible kind.AfterRead call.at (h, refl)) suits less in
     record {
       each = all_map (IsSound (environment header all).gates (qubit_count all) (bit_count all)) (application all t call) (range_with_len 0 n) (all_range (λ k. IsSound (environment header all).gates (qubit_count all) (bit_count all) (application all t call k)) 0 n (λ k low high. (good k (omega arith)).sound));
       spare = calls_spare all t call (range_with_len 0 n);

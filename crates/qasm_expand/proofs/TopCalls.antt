@@ -17,7 +17,7 @@ use Rattle.qasm_expand.specs.Calls.{Visit, at_depth, none}
 use Rattle.qasm_expand.specs.Faults.{IsFault}
 use Rattle.qasm_expand.specs.Items.{Item, application, reading, qubit_number, bit_number}
 use Rattle.qasm_expand.specs.Items.Item.{Applied, Measured}
-use Rattle.qasm_expand.specs.Limits.{long_calls}
+use Rattle.qasm_expand.specs.Limits.{passed_by_calls}
 use Rattle.qasm_expand.specs.Walks.{Walks, Passes, VisitsCall}
 use Rattle.qasm_expand.proofs.FaultLemmas.{fault_memory}
 use Rattle.qasm_expand.proofs.WalkLemmas.{walks_append, walks_plain, passes_first, passes_second, passes_plain}
@@ -64,7 +64,7 @@ walks_fails gates start old f k n e less h p =
 
 -- there was no memory
 pub memory_passes : (gates : List GateDef) (old : Walk) (xs : List Visit) (e : ExpandFault) → e ≡ fault.Memory → Passes gates old xs e
-memory_passes gates old xs e is = record { visited = []; left = xs; some = none; first = fault_memory (long_calls old.calls old.nodes []) e is }
+memory_passes gates old xs e is = record { visited = []; left = xs; some = none; first = fault_memory (passed_by_calls old.calls old.nodes []) e is }
 
 -- a call in one application
 pub application_is : (all : List Stmt) (t : Target) (call : BodyOp) (k : ℕ) (angles : List (List Node)) (qubits : List ℕ) (args : List Arg) → angles ≡ call.exprs → args ≡ call.args → qubits ≡ map (λ (arg : Arg). qubit_number all (applied arg k)) args → Applied t angles qubits ≡ application all t call k
@@ -79,6 +79,6 @@ pub measure_walks : (gates : List GateDef) (old new : Walk) (i : Item) (q b : �
 measure_walks gates old new i q b same h =
     subst (λ (x : Item). Walks gates old new (at_depth 1 (x ∷ []))) same (walks_plain gates old new (record { depth = 1; item = Measured q b }) tt refl h)
 
-pub measure_passes : (gates : List GateDef) (old : Walk) (i : Item) (q b : ℕ) (e : ExpandFault) → Measured q b ≡ i → IsFault (long_calls old.calls old.nodes (record { depth = 1; item = Measured q b } ∷ [])) e → Passes gates old (at_depth 1 (i ∷ [])) e
+pub measure_passes : (gates : List GateDef) (old : Walk) (i : Item) (q b : ℕ) (e : ExpandFault) → Measured q b ≡ i → IsFault (passed_by_calls old.calls old.nodes (record { depth = 1; item = Measured q b } ∷ [])) e → Passes gates old (at_depth 1 (i ∷ [])) e
 measure_passes gates old i q b e same h =
     subst (λ (x : Item). Passes gates old (at_depth 1 (x ∷ [])) e) same (passes_plain gates old (record { depth = 1; item = Measured q b }) e h)

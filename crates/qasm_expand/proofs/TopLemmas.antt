@@ -10,18 +10,18 @@ use Rattle.qasm_scope.specs.declared.gate.Target.TheVariants as target
 use Rattle.qasm_expand.specs.declared.walk.Walk.{Walk}
 use Rattle.qasm_expand.specs.declared.frame.Frame.{Frame}
 use Rattle.qasm_expand.specs.declared.fault.ExpandFault.{ExpandFault}
-use Rattle.qasm_expand.specs.Angles.{put_in, replaced}
+use Rattle.qasm_expand.specs.Angles.{substitute, replaced}
 use Rattle.qasm_expand.specs.Calls.{Visit, within}
 use Rattle.qasm_expand.specs.Faults.{IsFault}
 use Rattle.qasm_expand.specs.Items.Item.{Applied}
-use Rattle.qasm_expand.specs.Limits.{long_angle}
+use Rattle.qasm_expand.specs.Limits.{passed_by_angles}
 use Rattle.qasm_expand.specs.Native.{ops_on}
 use Rattle.qasm_expand.specs.Replacing.{inner}
-use Rattle.qasm_expand.specs.Walks.{Counts, OpensFrame, Passes, VisitsFirst, Writes, angles_in, long_call, pending}
-use Rattle.qasm_expand.specs.WellBound.{IsFit}
+use Rattle.qasm_expand.specs.Walks.{Counts, OpensFrame, Passes, VisitsFirst, Writes, angles_in, passed_by_call, pending}
+use Rattle.qasm_expand.specs.Fit.{IsFit}
 use Rattle.qasm_expand.proofs.CallLemmas.{applied_visit}
 use Rattle.qasm_expand.proofs.FaultLemmas.{fault_same}
-use Rattle.qasm_expand.proofs.LimitLemmas.{long_one}
+use Rattle.qasm_expand.proofs.LimitLemmas.{passed_one}
 use Rattle.qasm_expand.proofs.FrameLemmas.{pending_opens}
 use Rattle.qasm_expand.proofs.WalkLemmas.{Walking, first_passes, walking_visit}
 
@@ -30,9 +30,9 @@ replaced_none : (n : Node) → replaced [] n ≡ n ∷ []
 replaced_none (node.Name name at) = refl
 replaced_none other = refl
 
-put_none : (nodes : List Node) → put_in [] nodes ≡ nodes
+put_none : (nodes : List Node) → substitute [] nodes ≡ nodes
 put_none [] = refl
-put_none (n ∷ nodes) = ap (λ r. r ++ put_in [] nodes) (replaced_none n) ∙ ap (λ r. n ∷ r) (put_none nodes)
+put_none (n ∷ nodes) = ap (λ r. r ++ substitute [] nodes) (replaced_none n) ∙ ap (λ r. n ∷ r) (put_none nodes)
 
 pub angles_top : (exprs : List (List Node)) → angles_in [] [] exprs ≡ exprs
 angles_top [] = refl
@@ -57,10 +57,10 @@ module _ (gates : List GateDef) (old mid new : Walk) (t : Target) (angles made :
       subst (λ a. Walking gates old new (record { depth = 1; item = Applied t a qubits } ∷ []) (pending gates frames)) same (walking_visit gates old new (v ∷ []) (pending gates frames) first)
 
 -- a call of the top passes a limit
-pub top_passes : (gates : List GateDef) (old : Walk) (t : Target) (angles made : List (List Node)) (qubits : List ℕ) (e : ExpandFault) → made ≡ angles → IsFault (option_or (long_call old.calls 1) (long_angle old.nodes made)) e → Passes gates old (record { depth = 1; item = Applied t angles qubits } ∷ []) e
+pub top_passes : (gates : List GateDef) (old : Walk) (t : Target) (angles made : List (List Node)) (qubits : List ℕ) (e : ExpandFault) → made ≡ angles → IsFault (option_or (passed_by_call old.calls 1) (passed_by_angles old.nodes made)) e → Passes gates old (record { depth = 1; item = Applied t angles qubits } ∷ []) e
 top_passes gates old t angles made qubits e same h =
     let v : List (List Node) → Visit = λ a. record { depth = 1; item = Applied t a qubits } in
-    subst (λ a. Passes gates old (v a ∷ []) e) same (first_passes gates old (v made ∷ []) e (fault_same _ _ e (long_one old.calls old.nodes (v made)) h))
+    subst (λ a. Passes gates old (v a ∷ []) e) same (first_passes gates old (v made ∷ []) e (fault_same _ _ e (passed_one old.calls old.nodes (v made)) h))
 
 pub if_err_map : {T : Type 0} {P Q : ExpandFault → Type 0} (r : Result T ExpandFault) → ((e : ExpandFault) → P e → Q e) → IfErr r P → IfErr r Q
 if_err_map (Ok x) f h = tt

@@ -10,18 +10,18 @@ use Rattle.qasm_scope.specs.declared.gate.Target.TheVariants as target
 use Rattle.qasm_expand.specs.declared.walk.Walk.{Walk}
 use Rattle.qasm_expand.specs.declared.frame.Frame.{Frame}
 use Rattle.qasm_expand.specs.declared.fault.ExpandFault.{ExpandFault}
-use Rattle.qasm_expand.specs.Calls.{Visit, Visits, none, next, at_depth, opened, within}
+use Rattle.qasm_expand.specs.Calls.{Visit, Visits, none, next, at_depth, items_in, opened, within}
 use Rattle.qasm_expand.specs.Faults.{IsFault}
 use Rattle.qasm_expand.specs.Items.{Item}
-use Rattle.qasm_expand.specs.Items.Item.{Applied, Fenced, Measured}
-use Rattle.qasm_expand.specs.Limits.{long_calls}
+use Rattle.qasm_expand.specs.Items.Item.{Applied, Barrier, Measured}
+use Rattle.qasm_expand.specs.Limits.{passed_by_calls}
 use Rattle.qasm_expand.specs.Native.{native_ops}
 use Rattle.qasm_expand.specs.Replacing.{Expands, plain, replaces, IsPlain, body_of}
-use Rattle.qasm_expand.specs.Walks.{Passes, Steps, VisitsCall, VisitsFirst, Walks, items_in, nodes_of, pending}
-use Rattle.qasm_expand.specs.WellBound.{IsFit}
+use Rattle.qasm_expand.specs.Walks.{Passes, Steps, VisitsCall, VisitsFirst, Walks, nodes_of, pending}
+use Rattle.qasm_expand.specs.Fit.{IsFit}
 use Rattle.qasm_expand.proofs.ClosedLemmas.{all_append}
 use Rattle.qasm_expand.proofs.FaultLemmas.{fault_same}
-use Rattle.qasm_expand.proofs.LimitLemmas.{long_append, nodes_append}
+use Rattle.qasm_expand.proofs.LimitLemmas.{passed_append, nodes_append}
 use Rattle.qasm_expand.proofs.VisitLemmas.{visits_before, visits_then}
 use Rattle.qasm_expand.proofs.ExpandsLemmas.{expands_append, expands_behind}
 
@@ -37,7 +37,7 @@ pub record Walking (gates : List GateDef) (old new : Walk) (before left : List V
   pub visited : List Visit
   pub items : List Item
   pub some : Visits gates before visited left
-  pub short : long_calls old.calls old.nodes visited ≡ None
+  pub short : passed_by_calls old.calls old.nodes visited ≡ None
   pub counted : new.calls ≡ old.calls + length visited
   pub nodes : new.nodes ≡ old.nodes + nodes_of visited
   pub plain : AllByRecursion IsPlain items
@@ -70,13 +70,13 @@ led_gate gates d place angles qubits g is =
     record { items = []; plain = tt; few = omega arith; ops = refl; leads = leads }
 
 led : (gates : List GateDef) (d : ℕ) (item : Item) → IsFit gates item → Led gates d item
-led gates d (Applied (target.Gate place) angles qubits) fit = led_gate gates d place angles qubits fit.1.gate fit.1.declared_at
-led gates d (Applied target.U angles qubits) fit = led_plain gates d _ tt refl
-led gates d (Applied target.Cx angles qubits) fit = led_plain gates d _ tt refl
-led gates d (Applied target.Cz angles qubits) fit = led_plain gates d _ tt refl
-led gates d (Applied target.Barrier angles qubits) fit = led_plain gates d _ tt refl
-led gates d Fenced fit = led_plain gates d _ tt refl
-led gates d (Measured qubit bit) fit = led_plain gates d _ tt refl
+led gates d (Applied (target.Gate place) angles qubits) fit = led_gate gates d place angles qubits fit.1.1 fit.1.2
+led gates d (Applied target.U angles qubits) fit = led_plain gates d _ refl refl
+led gates d (Applied target.Cx angles qubits) fit = led_plain gates d _ refl refl
+led gates d (Applied target.Cz angles qubits) fit = led_plain gates d _ refl refl
+led gates d (Applied target.Barrier angles qubits) fit = led_plain gates d _ refl refl
+led gates d Barrier fit = led_plain gates d _ refl refl
+led gates d (Measured qubit bit) fit = led_plain gates d _ refl refl
 
 pub walking_none : (gates : List GateDef) (walk : Walk) (before : List Visit) → Walking gates walk walk before before
 walking_none gates walk before = record {
@@ -113,9 +113,9 @@ walking_visit gates old new before left h =
     }
 
 -- limits of visits in two parts
-short_both : (old new : Walk) (xs ys : List Visit) → long_calls old.calls old.nodes xs ≡ None → new.calls ≡ old.calls + length xs → new.nodes ≡ old.nodes + nodes_of xs → long_calls old.calls old.nodes (xs ++ ys) ≡ long_calls new.calls new.nodes ys
+short_both : (old new : Walk) (xs ys : List Visit) → passed_by_calls old.calls old.nodes xs ≡ None → new.calls ≡ old.calls + length xs → new.nodes ≡ old.nodes + nodes_of xs → passed_by_calls old.calls old.nodes (xs ++ ys) ≡ passed_by_calls new.calls new.nodes ys
 short_both old new xs ys short counted nodes =
-    long_append old.calls old.nodes xs ys ∙ ap (λ o. option_or o (long_calls (old.calls + length xs) (old.nodes + nodes_of xs) ys)) short ∙ ap (λ n. long_calls n (old.nodes + nodes_of xs) ys) (flip counted) ∙ ap (λ n. long_calls new.calls n ys) (flip nodes)
+    passed_append old.calls old.nodes xs ys ∙ ap (λ o. option_or o (passed_by_calls (old.calls + length xs) (old.nodes + nodes_of xs) ys)) short ∙ ap (λ n. passed_by_calls n (old.nodes + nodes_of xs) ys) (flip counted) ∙ ap (λ n. passed_by_calls new.calls n ys) (flip nodes)
 
 ops_both : (old new newer : Walk) (xs ys : List Item) → new.ops.items ≡ old.ops.items ++ flat_map native_ops xs → newer.ops.items ≡ new.ops.items ++ flat_map native_ops ys → newer.ops.items ≡ old.ops.items ++ flat_map native_ops (xs ++ ys)
 ops_both old new newer xs ys h k =
@@ -170,11 +170,11 @@ walking_passes gates old new before left e h k = record {
   visited = h.visited ++ k.visited;
   left = k.left;
   some = visits_then h.some k.some;
-  first = fault_same (long_calls old.calls old.nodes (h.visited ++ k.visited)) (long_calls new.calls new.nodes k.visited) e (short_both old new h.visited k.visited h.short h.counted h.nodes) k.first;
+  first = fault_same (passed_by_calls old.calls old.nodes (h.visited ++ k.visited)) (passed_by_calls new.calls new.nodes k.visited) e (short_both old new h.visited k.visited h.short h.counted h.nodes) k.first;
 }
 
 -- the first call passes a limit
-pub first_passes : (gates : List GateDef) (old : Walk) (calls : List Visit) (e : ExpandFault) → IsFault (long_calls old.calls old.nodes (take 1 calls)) e → Passes gates old calls e
+pub first_passes : (gates : List GateDef) (old : Walk) (calls : List Visit) (e : ExpandFault) → IsFault (passed_by_calls old.calls old.nodes (take 1 calls)) e → Passes gates old calls e
 first_passes gates old [] e h = record { visited = []; left = []; some = none; first = h }
 first_passes gates old (v ∷ vs) e h = record { visited = v ∷ []; left = within gates v.depth v.item ++ vs; some = next none; first = h }
 
@@ -201,7 +201,7 @@ passes_second gates old new xs ys e h k = record {
   visited = h.visited ++ k.visited;
   left = k.left;
   some = visits_then (visits_before ys h.all) k.some;
-  first = fault_same (long_calls old.calls old.nodes (h.visited ++ k.visited)) (long_calls new.calls new.nodes k.visited) e (short_both old new h.visited k.visited h.short h.counted h.nodes) k.first;
+  first = fault_same (passed_by_calls old.calls old.nodes (h.visited ++ k.visited)) (passed_by_calls new.calls new.nodes k.visited) e (short_both old new h.visited k.visited h.short h.counted h.nodes) k.first;
 }
 
 -- a call of the top that has no body
@@ -210,7 +210,7 @@ walks_plain gates old new v fit closed h =
     let first : VisitsFirst gates old new (v ∷ []) [] = record { visit = v; others = []; first = refl; opens = flip (ap (λ w. w ++ []) closed); fit = fit; visits = h } in
     walking_walks gates old new new (v ∷ []) [] (walking_visit gates old new (v ∷ []) [] first) (walks_none gates new)
 
-pub passes_plain : (gates : List GateDef) (old : Walk) (v : Visit) (e : ExpandFault) → IsFault (long_calls old.calls old.nodes (v ∷ [])) e → Passes gates old (v ∷ []) e
+pub passes_plain : (gates : List GateDef) (old : Walk) (v : Visit) (e : ExpandFault) → IsFault (passed_by_calls old.calls old.nodes (v ∷ [])) e → Passes gates old (v ∷ []) e
 passes_plain gates old v e h = first_passes gates old (v ∷ []) e h
 
 -- a step of the walk

@@ -16,6 +16,10 @@ pub record Visit : Type 0 where
 abbrev pub at_depth : ℕ → List Item → List Visit
 at_depth d items = map (λ item. record { depth = d; item = item }) items
 
+-- the calls without their depths
+abbrev pub items_in : List Visit → List Item
+items_in calls = map (λ v. v.item) calls
+
 -- the calls of a body, one deeper than the call
 abbrev pub opened : Option GateDef → ℕ → List (List Node) → List ℕ → List Visit
 opened (Some g) d angles qubits = at_depth (suc d) (body_of g angles qubits)

@@ -8,7 +8,7 @@ use Rattle.qasm_expand.specs.Items.{Item, program_items}
 use Rattle.qasm_expand.specs.Replacing.{Expands}
 use Rattle.qasm_expand.specs.Native.{native_circuit}
 use Rattle.qasm_expand.specs.Calls.{Visit, Visits, at_depth}
-use Rattle.qasm_expand.specs.Limits.{long_before_calls, long_calls}
+use Rattle.qasm_expand.specs.Limits.{passed_before_calls, passed_by_calls}
 
 -- the calls of a program, each with depth 1
 abbrev pub top_calls : Program → List Visit
@@ -16,17 +16,17 @@ top_calls p = at_depth 1 (program_items p.header p.statements)
 
 -- no limit is passed
 pub record IsWithinLimits (p : Program) : Type 0 where
-  pub before : long_before_calls p.statements ≡ None
+  pub before : passed_before_calls p.statements ≡ None
   pub visited : List Visit
   pub all : Visits (environment p.header p.statements).gates (top_calls p) visited []
-  pub calls : long_calls 0 0 visited ≡ None
+  pub calls : passed_by_calls 0 0 visited ≡ None
 
 -- the first limit that is passed, with its count: before the calls, or by one of those that are visited here
 pub record PassesFirst (p : Program) (kind : LimitKind) (count : ℕ) : Type 0 where
   pub visited : List Visit
   pub left : List Visit
   pub calls : Visits (environment p.header p.statements).gates (top_calls p) visited left
-  pub first : (long_before_calls p.statements ≡ Some (kind, count)) ⊎ ((long_before_calls p.statements ≡ None) × (long_calls 0 0 visited ≡ Some (kind, count)))
+  pub first : (passed_before_calls p.statements ≡ Some (kind, count)) ⊎ ((passed_before_calls p.statements ≡ None) × (passed_by_calls 0 0 visited ≡ Some (kind, count)))
 
 -- the circuit is the native list of the program's calls, each replaced by its body until none has one
 pub record IsExpansion (p : Program) (c : NativeCircuit) : Type 0 where

@@ -16,7 +16,7 @@ use Rattle.qasm_scope.specs.Applications.{Place, applications, applied}
 -- a call on qubits with its angles; a barrier, which is for all qubits; or a measurement of a qubit into a bit
 pub data Item : Type 0 where
   Applied : (to : Target) (angles : List (List Node)) (qubits : List ℕ) → Item
-  Fenced : Item
+  Barrier : Item
   Measured : (qubit bit : ℕ) → Item
 
 -- qubits are numbered over the registers in their order; so are bits
@@ -53,7 +53,7 @@ abbrev pub items_of : Environment → List Stmt → Stmt → List Item
 items_of e all (stmt.Call call) =
     map (application all (value_or (target_of (callee e call.name)) target.Barrier) call) (range_with_len 0 (applications e call.args))
 items_of e all (stmt.Measure from into at) = map (reading all from into) (range_with_len 0 (applications e (from ∷ [])))
-items_of e all (stmt.Barrier args at) = Fenced ∷ []
+items_of e all (stmt.Barrier args at) = Barrier ∷ []
 items_of e all other = []
 
 -- those of all statements, in their order

@@ -1,7 +1,10 @@
+pub mod Trees
+pub mod StackReadings
 pub mod Angles
+pub mod AngleReadings
 pub mod Items
 pub mod Replacing
-pub mod WellBound
+pub mod Fit
 pub mod Native
 pub mod Calls
 pub mod Limits

@@ -12,7 +12,7 @@ use Rattle.qasm_expand.specs.declared.fault.LimitKind.{LimitKind}
 use Rattle.qasm_expand.specs.declared.fault.LimitKind.TheVariants as limit
 use Rattle.qasm_expand.specs.Angles.{depth_of}
 use Rattle.qasm_expand.specs.Items.{Item}
-use Rattle.qasm_expand.specs.Items.Item.{Applied, Fenced, Measured}
+use Rattle.qasm_expand.specs.Items.Item.{Applied, Barrier, Measured}
 use Rattle.qasm_expand.specs.Calls.{Visit}
 
 -- a passed limit, with the count that passed it
@@ -37,15 +37,15 @@ statement_literals (stmt.Gate name params args body at) = flat_map (λ (op : Bod
 statement_literals other = []
 
 -- the first that is longer than 40 bytes
-abbrev pub long_literal : List (List ℕ) → Option Passed
-long_literal [] = None
-long_literal (text ∷ texts) = option_or (beyond limit.Literal 40 (length text)) (long_literal texts)
+abbrev pub passed_by_literals : List (List ℕ) → Option Passed
+passed_by_literals [] = None
+passed_by_literals (text ∷ texts) = option_or (beyond limit.Literal 40 (length text)) (passed_by_literals texts)
 
 -- the first running sum of sizes that passes a limit
-abbrev pub long_sum : LimitKind → ℕ → ℕ → List ℕ → Option Passed
-long_sum kind most sum [] = None
-long_sum kind most sum (size ∷ sizes) =
-    option_or (beyond kind most (sum + size)) (long_sum kind most (sum + size) sizes)
+abbrev pub passed_by_sizes : LimitKind → ℕ → ℕ → List ℕ → Option Passed
+passed_by_sizes kind most sum [] = None
+passed_by_sizes kind most sum (size ∷ sizes) =
+    option_or (beyond kind most (sum + size)) (passed_by_sizes kind most (sum + size) sizes)
 
 abbrev pub qubit_sizes : Stmt → List ℕ
 qubit_sizes (stmt.Qreg name size at) = size ∷ []
@@ -56,17 +56,17 @@ bit_sizes (stmt.Creg name size at) = size ∷ []
 bit_sizes other = []
 
 -- of all angles before, so many nodes; and the angles of a call, one after another
-abbrev pub long_angle : ℕ → List (List Node) → Option Passed
-long_angle before [] = None
-long_angle before (angle ∷ angles) =
+abbrev pub passed_by_angles : ℕ → List (List Node) → Option Passed
+passed_by_angles before [] = None
+passed_by_angles before (angle ∷ angles) =
     option_or (beyond limit.AngleNodes 256 (length angle))
     (option_or (beyond limit.AngleDepth 64 (depth_of angle))
     (option_or (beyond limit.AngleTotal 4194304 (before + length angle))
-    (long_angle (before + length angle) angles)))
+    (passed_by_angles (before + length angle) angles)))
 
 abbrev pub angles_of : Item → List (List Node)
 angles_of (Applied to angles qubits) = angles
-angles_of Fenced = []
+angles_of Barrier = []
 angles_of (Measured qubit bit) = []
 
 abbrev pub nodes_in : List (List Node) → ℕ
@@ -74,17 +74,17 @@ nodes_in [] = 0
 nodes_in (angle ∷ angles) = length angle + nodes_in angles
 
 -- the calls, one after another, behind so many calls with so many nodes
-abbrev pub long_calls : ℕ → ℕ → List Visit → Option Passed
-long_calls calls nodes [] = None
-long_calls calls nodes (v ∷ vs) =
+abbrev pub passed_by_calls : ℕ → ℕ → List Visit → Option Passed
+passed_by_calls calls nodes [] = None
+passed_by_calls calls nodes (v ∷ vs) =
     option_or (beyond limit.Calls 262144 (suc calls))
     (option_or (beyond limit.Depth 64 v.depth)
-    (option_or (long_angle nodes (angles_of v.item))
-    (long_calls (suc calls) (nodes + nodes_in (angles_of v.item)) vs)))
+    (option_or (passed_by_angles nodes (angles_of v.item))
+    (passed_by_calls (suc calls) (nodes + nodes_in (angles_of v.item)) vs)))
 
 -- what is judged before the calls
-abbrev pub long_before_calls : List Stmt → Option Passed
-long_before_calls statements =
-    option_or (long_literal (flat_map statement_literals statements))
-    (option_or (long_sum limit.Qubits 4096 0 (flat_map qubit_sizes statements))
-    (long_sum limit.Bits 65536 0 (flat_map bit_sizes statements)))
+abbrev pub passed_before_calls : List Stmt → Option Passed
+passed_before_calls statements =
+    option_or (passed_by_literals (flat_map statement_literals statements))
+    (option_or (passed_by_sizes limit.Qubits 4096 0 (flat_map qubit_sizes statements))
+    (passed_by_sizes limit.Bits 65536 0 (flat_map bit_sizes statements)))

@@ -11,7 +11,7 @@ use Rattle.qasm_scope.specs.declared.gate.Target.{Target}
 use Rattle.qasm_scope.specs.declared.gate.Target.TheVariants as target
 use Rattle.qasm_expand.specs.Angles.{text_of}
 use Rattle.qasm_expand.specs.Items.{Item, qubit_count, bit_count}
-use Rattle.qasm_expand.specs.Items.Item.{Applied, Fenced, Measured}
+use Rattle.qasm_expand.specs.Items.Item.{Applied, Barrier, Measured}
 
 -- the angles of a Hadamard gate, as U((pi/2),0,pi)
 abbrev pub hadamard : Angles
@@ -28,7 +28,7 @@ ops_on other angles qubits = []
 
 abbrev pub native_ops : Item → List Op
 native_ops (Applied to angles qubits) = ops_on to angles qubits
-native_ops Fenced = Fence ∷ []
+native_ops Barrier = Fence ∷ []
 native_ops (Measured qubit bit) = Read qubit bit ∷ []
 
 -- how many of these ops are pairs

@@ -11,19 +11,15 @@ use Rattle.qasm_expand.specs.declared.fault.ExpandFault.{ExpandFault}
 use Rattle.qasm_expand.specs.declared.fault.LimitKind.TheVariants as limit
 use Rattle.qasm_expand.specs.declared.walk.Walk.{Walk}
 use Rattle.qasm_expand.specs.declared.frame.Frame.{Frame}
-use Rattle.qasm_expand.specs.Angles.{put_in}
-use Rattle.qasm_expand.specs.Calls.{Visit, Visits, opened, within}
+use Rattle.qasm_expand.specs.Angles.{substitute}
+use Rattle.qasm_expand.specs.Calls.{Visit, Visits, items_in, opened, within}
 use Rattle.qasm_expand.specs.Faults.{IsFault}
 use Rattle.qasm_expand.specs.Items.{Item}
 use Rattle.qasm_expand.specs.Items.Item.{Applied}
-use Rattle.qasm_expand.specs.Limits.{Passed, beyond, angles_of, nodes_in, long_angle, long_calls}
+use Rattle.qasm_expand.specs.Limits.{Passed, beyond, angles_of, nodes_in, passed_by_angles, passed_by_calls}
 use Rattle.qasm_expand.specs.Native.{native_ops}
 use Rattle.qasm_expand.specs.Replacing.{Expands}
-use Rattle.qasm_expand.specs.WellBound.{IsFit}
-
--- the calls without their depths
-abbrev pub items_in : List Visit → List Item
-items_in calls = map (λ v. v.item) calls
+use Rattle.qasm_expand.specs.Fit.{IsFit}
 
 -- the nodes of the angles of all these calls
 abbrev pub nodes_of : List Visit → ℕ
@@ -36,7 +32,7 @@ pub record Walks (gates : List GateDef) (old new : Walk) (calls : List Visit) : 
   pub visited : List Visit
   pub items : List Item
   pub all : Visits gates calls visited []
-  pub short : long_calls old.calls old.nodes visited ≡ None
+  pub short : passed_by_calls old.calls old.nodes visited ≡ None
   pub counted : new.calls ≡ old.calls + length visited
   pub nodes : new.nodes ≡ old.nodes + nodes_of visited
   pub expands : Expands gates (items_in calls) items
@@ -48,33 +44,33 @@ pub record Passes (gates : List GateDef) (old : Walk) (calls : List Visit) (faul
   pub visited : List Visit
   pub left : List Visit
   pub some : Visits gates calls visited left
-  pub first : IsFault (long_calls old.calls old.nodes visited) fault
+  pub first : IsFault (passed_by_calls old.calls old.nodes visited) fault
 
 -- the limits on the number of calls and on the depth, for one more call
-abbrev pub long_call : ℕ → ℕ → Option Passed
-long_call calls depth = option_or (beyond limit.Calls 262144 (suc calls)) (beyond limit.Depth 64 depth)
+abbrev pub passed_by_call : ℕ → ℕ → Option Passed
+passed_by_call calls depth = option_or (beyond limit.Calls 262144 (suc calls)) (beyond limit.Depth 64 depth)
 
 -- one more call of this depth is counted
 pub record CountsCall (old new : Walk) (depth : ℕ) : Type 0 where
-  pub short : long_call old.calls depth ≡ None
+  pub short : passed_by_call old.calls depth ≡ None
   pub calls : new.calls ≡ suc old.calls
   pub nodes : new.nodes ≡ old.nodes
   pub ops : new.ops ≡ old.ops
 
 -- the nodes of these angles are counted
 pub record CountsAngles (old new : Walk) (angles : List (List Node)) : Type 0 where
-  pub short : long_angle old.nodes angles ≡ None
+  pub short : passed_by_angles old.nodes angles ≡ None
   pub calls : new.calls ≡ old.calls
   pub nodes : new.nodes ≡ old.nodes + nodes_in angles
   pub ops : new.ops ≡ old.ops
 
 -- the angles of a call in a body, where the gate with these parameters is called with these angles
 abbrev pub angles_in : List (List ℕ) → List (List Node) → List (List Node) → List (List Node)
-angles_in params angles exprs = map (put_in (zip params angles)) exprs
+angles_in params angles exprs = map (substitute (zip params angles)) exprs
 
 -- a call of this depth is counted with its angles
 pub record Counts (old new : Walk) (depth : ℕ) (angles : List (List Node)) : Type 0 where
-  pub short : option_or (long_call old.calls depth) (long_angle old.nodes angles) ≡ None
+  pub short : option_or (passed_by_call old.calls depth) (passed_by_angles old.nodes angles) ≡ None
   pub calls : new.calls ≡ suc old.calls
   pub nodes : new.nodes ≡ old.nodes + nodes_in angles
   pub ops : new.ops ≡ old.ops
@@ -118,7 +114,7 @@ AreFit gates frames = AllByRecursion (λ f. IsFit gates (call_of f)) frames
 
 -- a call was visited: it is counted with its angles, and its ops are written
 pub record VisitsCall (old new : Walk) (v : Visit) : Type 0 where
-  pub short : long_calls old.calls old.nodes (v ∷ []) ≡ None
+  pub short : passed_by_calls old.calls old.nodes (v ∷ []) ≡ None
   pub counted : new.calls ≡ suc old.calls
   pub nodes : new.nodes ≡ old.nodes + nodes_in (angles_of v.item)
   pub ops : new.ops.items ≡ old.ops.items ++ native_ops v.item

@@ -2,11 +2,13 @@
 
 ghost use Rattle.std.specs.Prelude.{◌≡◌, ◌+◌, ◌^◌, ◌<◌, suc, max, reverse, IfOk, OnOk};
 ghost use Rattle.std.specs.List.{AllByRecursion};
-ghost use Rattle.qasm_expand.specs.Angles.{depth_of, depths, on_one, on_two, read_node};
+ghost use Rattle.qasm_expand.specs.AngleReadings.{depths};
+ghost use Rattle.qasm_expand.specs.Angles.{depth_of};
+ghost use Rattle.qasm_expand.specs.StackReadings.{on_one, on_two, read_node};
 
 use crate::angle_node::{Arity, arity_of};
 use crate::angle_stack::{pop, push};
-use qasm_parse::Node;
+use qasm_parse::{Expr, Node};
 use std::alloc::Global;
 use zac_gates::Memory;
 
@@ -48,11 +50,11 @@ fn read_depth(stack: &mut Vec<u64>, node: &Node) -> Result<(), Memory>
 }
 
 /// The depth of an angle, where a leaf has depth 1.
-pub(crate) fn depth(alloc: Global, nodes: &[Node]) -> Result<u64, Memory>
-    ensures { IfOk result (λ depth. depth ≡ depth_of nodes.now) }
+pub(crate) fn depth(alloc: Global, angle: &Expr) -> Result<u64, Memory>
+    ensures { IfOk result (λ depth. depth ≡ depth_of angle.now) }
 {
     let mut stack = Vec::new(alloc);
-    for node in nodes {
+    for node in angle.as_slice() {
         read_depth(&mut stack, node)?;
     }
     Ok(pop(&mut stack).unwrap_or(0))

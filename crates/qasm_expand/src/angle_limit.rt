@@ -1,13 +1,13 @@
 //! The limits of angles.
 
-ghost use Rattle.std.specs.Prelude.{◌≡◌, ℕ, [], ◌∷◌, length, zip, Some, None, IfOk, IsErrOf};
-ghost use Rattle.qasm_expand.specs.Angles.{put_in};
-ghost use Rattle.qasm_expand.specs.Limits.{beyond, long_angle};
+ghost use Rattle.std.specs.Prelude.{◌≡◌, ℕ, [], ◌∷◌, zip, Some, None, IfOk, IsErrOf};
+ghost use Rattle.qasm_expand.specs.Angles.{substitute};
+ghost use Rattle.qasm_expand.specs.Limits.{beyond, passed_by_angles};
 
 use crate::angle_depth::depth;
-use crate::angle_put::{node_count, put_in};
 use crate::fault::{ExpandFault, LimitKind};
-use qasm_parse::{Expr, Node};
+use crate::substitution::{node_count, substitute};
+use qasm_parse::Expr;
 use std::alloc::Global;
 use zac_gates::{Bytes, Memory};
 
@@ -37,15 +37,15 @@ pub(crate) fn past(kind: LimitKind, most: u128, count: u128) -> Option<(LimitKin
 pub(crate) fn angle_limit(
     alloc: Global,
     before: u64,
-    nodes: &[Node],
+    angle: &Expr,
 ) -> Result<Option<(LimitKind, u64)>, Memory>
-    ensures { IfOk result (λ passed. passed ≡ long_angle before (nodes.now ∷ [])) }
+    ensures { IfOk result (λ passed. passed ≡ passed_by_angles before (angle.now ∷ [])) }
 {
-    let count = nodes.len() as u128;
+    let count = angle.as_slice().len() as u128;
     if let Some(passed) = past(LimitKind::AngleNodes, MOST_NODES, count) {
         return Ok(Some(passed));
     }
-    let deepest = depth(alloc, nodes)?;
+    let deepest = depth(alloc, angle)?;
     if let Some(passed) = past(LimitKind::AngleDepth, MOST_DEPTH, deepest as u128) {
         return Ok(Some(passed));
     }
@@ -56,24 +56,24 @@ pub(crate) fn angle_limit(
 /// any is made.
 ///
 /// `Limit` tells the first limit that the angle passes.
-pub(crate) fn put_in_within(
+pub(crate) fn substitute_within(
     alloc: Global,
     before: u64,
     expr: &Expr,
     params: &[Bytes],
     angles: &[Expr],
 ) -> Result<Expr, ExpandFault>
-    ensures ok { IfOk result (λ made. (made ≡ put_in (zip params.now angles.now) expr.now)
-        × (long_angle before (put_in (zip params.now angles.now) expr.now ∷ []) ≡ None)) }
+    ensures ok { IfOk result (λ made. (made ≡ substitute (zip params.now angles.now) expr.now)
+        × (passed_by_angles before (substitute (zip params.now angles.now) expr.now ∷ []) ≡ None)) }
     ensures limit { (kind : LimitKind) → (count : ℕ) → IsErrOf result (ExpandFault.Limit kind count)
-        → long_angle before (put_in (zip params.now angles.now) expr.now ∷ []) ≡ Some (kind, count) }
+        → passed_by_angles before (substitute (zip params.now angles.now) expr.now ∷ []) ≡ Some (kind, count) }
 {
     let count = node_count(expr.as_slice(), params, angles);
     if let Some((kind, count)) = past(LimitKind::AngleNodes, MOST_NODES, count) {
         return Err(ExpandFault::Limit { kind, count });
     }
-    let made = put_in(alloc, expr, params, angles)?;
-    match angle_limit(alloc, before, made.as_slice())? {
+    let made = substitute(alloc, expr, params, angles)?;
+    match angle_limit(alloc, before, &made)? {
         None => Ok(made),
         Some((kind, count)) => Err(ExpandFault::Limit { kind, count }),
     }

@@ -1,11 +1,11 @@
 //! Worked angles, thought out from the format.
 
 use crate::angle_depth::depth;
-use crate::angle_limit::{angle_limit, put_in_within};
-use crate::angle_put::node_count;
+use crate::angle_limit::{angle_limit, substitute_within};
 use crate::angle_text::{angle_text_of, text_bytes};
 use crate::fault::{ExpandFault, LimitKind};
-use crate::literals::long_in_nodes;
+use crate::literals::passed_in_nodes;
+use crate::substitution::node_count;
 use qasm_lex::lex;
 use qasm_parse::{BodyOp, Expr, Node, Stmt, statement};
 use std::alloc::Global;
@@ -69,7 +69,7 @@ fn prints_angles(rt: HostRuntime) -> Result<(), Fail> {
             .ok_or("memory")?;
         assert!(rt; found.as_slice() == text, "at {source:?}");
         assert_eq!(rt; expr.as_slice().len(), nodes);
-        assert_eq!(rt; depth(rt.alloc(), expr.as_slice()), Ok(deepest));
+        assert_eq!(rt; depth(rt.alloc(), &expr), Ok(deepest));
     }
     Ok(())
 }
@@ -101,7 +101,7 @@ fn puts_angles_in(rt: HostRuntime) -> Result<(), Fail> {
     let params = params.as_slice();
     let angles = angles.as_slice();
     assert_eq!(rt; node_count(expr.as_slice(), params, angles), 8);
-    let made = match put_in_within(rt.alloc(), 4_194_296, &expr, params, angles) {
+    let made = match substitute_within(rt.alloc(), 4_194_296, &expr, params, angles) {
         Ok(made) => made,
         Err(_) => return Err(Fail::from("a fault")),
     };
@@ -109,7 +109,7 @@ fn puts_angles_in(rt: HostRuntime) -> Result<(), Fail> {
         .ok()
         .ok_or("memory")?;
     assert!(rt; text.as_slice() == b"(((1+2)/2)*(-pi))".as_slice());
-    let fault = put_in_within(rt.alloc(), 4_194_297, &expr, params, angles).err();
+    let fault = substitute_within(rt.alloc(), 4_194_297, &expr, params, angles).err();
     let total = ExpandFault::Limit {
         kind: LimitKind::AngleTotal,
         count: 4_194_305,
@@ -129,8 +129,8 @@ fn tests_limits(rt: HostRuntime) -> Result<(), Fail> {
     ];
     for (byte, times, limit, literal) in cases {
         let expr = repeated(rt.alloc(), byte, times)?;
-        assert_eq!(rt; angle_limit(rt.alloc(), 0, expr.as_slice()), Ok(limit));
-        assert_eq!(rt; long_in_nodes(expr.as_slice()), literal);
+        assert_eq!(rt; angle_limit(rt.alloc(), 0, &expr), Ok(limit));
+        assert_eq!(rt; passed_in_nodes(expr.as_slice()), literal);
     }
     Ok(())
 }

@@ -2,23 +2,23 @@
 
 ghost use Rattle.std.specs.Prelude.{◌≡◌, ◌++◌, ℕ, ◌≤◌, List, length, reverse, codes, IfOk, OnOk};
 ghost use Rattle.qasm_expand.specs.AngleNodes.{IsClosed};
-ghost use Rattle.qasm_expand.specs.Angles.{
-  leaf_text,
-  on_one,
-  on_two,
-  one_text,
-  read_node,
-  sign_text,
-  text_of,
-  texts,
-  two_text,
-};
+ghost use Rattle.qasm_expand.specs.AngleReadings.{leaf_text, one_text, sign_text, texts, two_text};
+ghost use Rattle.qasm_expand.specs.Angles.{text_of};
+ghost use Rattle.qasm_expand.specs.StackReadings.{on_one, on_two, read_node};
 
-use crate::angle_node::{Arity, arity_of, copy_bytes};
+use crate::angle_node::{Arity, arity_of};
 use crate::angle_stack::{pop, push};
 use qasm_parse::{Expr, Function, Node};
 use std::alloc::Global;
 use zac_gates::{Angle, Bytes, List, Memory};
+
+/// Equal bytes.
+fn copy_bytes(alloc: Global, bytes: &[u8]) -> Result<Bytes, Memory>
+    ensures { IfOk result (λ copy. copy ≡ bytes.now) }
+{
+    let copy = Vec::from_slice(alloc, bytes)?;
+    Ok(List::of(copy))
+}
 
 /// The text of a leaf.
 fn text_of_leaf(alloc: Global, node: &Node) -> Result<Bytes, Memory>

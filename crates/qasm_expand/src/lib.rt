@@ -4,11 +4,11 @@
 mod angle_depth;
 mod angle_limit;
 mod angle_node;
-mod angle_put;
 mod angle_stack;
 #[cfg(test)]
 mod angle_tests;
 mod angle_text;
+pub mod expansion_laws;
 mod extent;
 pub mod fault;
 mod frame;
@@ -23,6 +23,7 @@ mod numbering;
 mod registers;
 mod statement;
 mod step;
+mod substitution;
 mod sums;
 mod top;
 mod walk;
@@ -30,5 +31,6 @@ mod walk;
 mod walk_tests;
 mod write;
 
+pub use expansion_laws::{calls_are_those_of_the_expansion, each_program_expands, one_expansion};
 pub use fault::{ExpandFault, LimitKind};
 pub use native::expand;

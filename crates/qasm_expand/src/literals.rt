@@ -2,7 +2,7 @@
 
 ghost use Rattle.std.specs.Prelude.{◌≡◌, option_to_list};
 ghost use Rattle.std.specs.List.{flat_map};
-ghost use Rattle.qasm_expand.specs.Limits.{literal_of, literals_in, statement_literals, long_literal};
+ghost use Rattle.qasm_expand.specs.Limits.{literal_of, literals_in, statement_literals, passed_by_literals};
 ghost use Rattle.qasm_expand.specs.Literals.{body_literals};
 
 use crate::fault::LimitKind;
@@ -12,8 +12,8 @@ use qasm_parse::{BodyOp, Expr, Node, Stmt};
 const MOST: usize = 40;
 
 /// Whether the node is a number that is too long, with its length.
-fn long_number(node: &Node) -> Option<(LimitKind, u64)>
-    ensures { result ≡ long_literal (literal_of node.now) }
+fn passed_by_number(node: &Node) -> Option<(LimitKind, u64)>
+    ensures { result ≡ passed_by_literals (literal_of node.now) }
 {
     match node {
         Node::Number { text } if text.as_slice().len() > MOST => {
@@ -24,11 +24,11 @@ fn long_number(node: &Node) -> Option<(LimitKind, u64)>
 }
 
 /// The first number that is too long, among these nodes.
-pub(crate) fn long_in_nodes(nodes: &[Node]) -> Option<(LimitKind, u64)>
-    ensures { result ≡ long_literal (flat_map literal_of nodes.now) }
+pub(crate) fn passed_in_nodes(nodes: &[Node]) -> Option<(LimitKind, u64)>
+    ensures { result ≡ passed_by_literals (flat_map literal_of nodes.now) }
 {
     for node in nodes {
-        let passed = long_number(node);
+        let passed = passed_by_number(node);
         if passed.is_some() {
             return passed;
         }
@@ -37,11 +37,11 @@ pub(crate) fn long_in_nodes(nodes: &[Node]) -> Option<(LimitKind, u64)>
 }
 
 /// The first number that is too long, among these expressions.
-pub(crate) fn long_in_exprs(exprs: &[Expr]) -> Option<(LimitKind, u64)>
-    ensures { result ≡ long_literal (literals_in exprs.now) }
+pub(crate) fn passed_in_exprs(exprs: &[Expr]) -> Option<(LimitKind, u64)>
+    ensures { result ≡ passed_by_literals (literals_in exprs.now) }
 {
     for expr in exprs {
-        let passed = long_in_nodes(expr.as_slice());
+        let passed = passed_in_nodes(expr.as_slice());
         if passed.is_some() {
             return passed;
         }
@@ -50,11 +50,11 @@ pub(crate) fn long_in_exprs(exprs: &[Expr]) -> Option<(LimitKind, u64)>
 }
 
 /// The first number that is too long, in this body.
-fn long_in_body(body: &[BodyOp]) -> Option<(LimitKind, u64)>
-    ensures { result ≡ long_literal (body_literals body.now) }
+fn passed_in_body(body: &[BodyOp]) -> Option<(LimitKind, u64)>
+    ensures { result ≡ passed_by_literals (body_literals body.now) }
 {
     for op in body {
-        let passed = long_in_exprs(op.exprs.as_slice());
+        let passed = passed_in_exprs(op.exprs.as_slice());
         if passed.is_some() {
             return passed;
         }
@@ -63,22 +63,22 @@ fn long_in_body(body: &[BodyOp]) -> Option<(LimitKind, u64)>
 }
 
 /// The first number that is too long, in this statement.
-fn long_in_statement(stmt: &Stmt) -> Option<(LimitKind, u64)>
-    ensures { result ≡ long_literal (statement_literals stmt.now) }
+fn passed_in_statement(stmt: &Stmt) -> Option<(LimitKind, u64)>
+    ensures { result ≡ passed_by_literals (statement_literals stmt.now) }
 {
     match stmt {
-        Stmt::Call { call } => long_in_exprs(call.exprs.as_slice()),
-        Stmt::Gate { body, .. } => long_in_body(body.as_slice()),
+        Stmt::Call { call } => passed_in_exprs(call.exprs.as_slice()),
+        Stmt::Gate { body, .. } => passed_in_body(body.as_slice()),
         _ => None,
     }
 }
 
 /// The first number that is too long, in the order of the source.
-pub(crate) fn long_literal(statements: &[Stmt]) -> Option<(LimitKind, u64)>
-    ensures { result ≡ long_literal (flat_map statement_literals statements.now) }
+pub(crate) fn passed_by_literals(statements: &[Stmt]) -> Option<(LimitKind, u64)>
+    ensures { result ≡ passed_by_literals (flat_map statement_literals statements.now) }
 {
     for stmt in statements {
-        let passed = long_in_statement(stmt);
+        let passed = passed_in_statement(stmt);
         if passed.is_some() {
             return passed;
         }

@@ -10,7 +10,7 @@ use crate::fault::ExpandFault;
 use crate::limit::refuse;
 use crate::registers::Registers;
 use crate::statement::{has_short_numbers, walk_all};
-use crate::sums::long_before_calls;
+use crate::sums::passed_before_calls;
 use qasm_scope::Scope;
 use std::alloc::Global;
 use zac_gates::{Circuit, CircuitFault};
@@ -24,7 +24,7 @@ fn native(alloc: Global, scope: &Scope) -> Result<Circuit, ExpandFault>
     ensures err { IfErr result (Tells scope.now) }
 {
     let statements = scope.statements();
-    refuse(long_before_calls(statements))?;
+    refuse(passed_before_calls(statements))?;
     if !has_short_numbers(scope.gates()) {
         return Err(ExpandFault::Memory);
     }

@@ -34,14 +34,14 @@ impl<'a> Registers<'a> {
     ghost use Rattle.std.specs.List.{AllByRecursion};
     ghost use Rattle.qasm_scope.specs.Applications.{applications, applied};
     ghost use Rattle.qasm_expand.specs.Items.{qubit_number, bit_number, qubit_count, bit_count};
-    ghost use Rattle.qasm_expand.specs.Limits.{long_before_calls};
+    ghost use Rattle.qasm_expand.specs.Limits.{passed_before_calls};
     ghost use Rattle.qasm_expand.specs.RegisterKinds.{IsPlaceIn};
     ghost use Rattle.qasm_expand.specs.Sized.{sized};
     ghost use Rattle.qasm_expand.specs.declared.kind.RegisterKind.{RegisterKind};
 
     /// The registers that the statements declare, which pass no limit.
     pub(crate) fn new(alloc: Global, statements: &'a [Stmt]) -> Result<Registers<'a>, Memory>
-        requires { long_before_calls statements.now ≡ None }
+        requires { passed_before_calls statements.now ≡ None }
         ensures { IfOk result (λ r. r ≡ statements.now) }
     {
         Ok(Registers {

@@ -3,12 +3,12 @@
 ghost use Rattle.std.specs.Prelude.{◌≡◌, ◌<◌, None, length, IfOk, OnOk, IfErr};
 ghost use Rattle.std.specs.Bool.{OnTrue};
 ghost use Rattle.qasm_scope.specs.Environment.{environment};
-ghost use Rattle.qasm_expand.specs.Limits.{long_before_calls};
+ghost use Rattle.qasm_expand.specs.Limits.{passed_before_calls};
 ghost use Rattle.qasm_expand.specs.Top.{AreShortBodies, HaveShortNumbers, IsWalked, IsStopped, visits_at};
 ghost use Rattle.qasm_expand.specs.Walks.{Walks, Passes};
 
 use crate::fault::ExpandFault;
-use crate::literals::long_in_exprs;
+use crate::literals::passed_in_exprs;
 use crate::registers::Registers;
 use crate::top::{apply_all, measure_all};
 use crate::walk::Walk;
@@ -21,7 +21,7 @@ fn has_short_body(body: &[Bound]) -> bool
     ensures { OnTrue result (AreShortBodies body.now) }
 {
     for call in body {
-        if long_in_exprs(call.exprs.as_slice()).is_some() {
+        if passed_in_exprs(call.exprs.as_slice()).is_some() {
             return false;
         }
     }
@@ -50,7 +50,7 @@ fn visit(
 ) -> Result<(), ExpandFault>
     requires place { place < length scope.now.statements }
     requires registers { registers.now ≡ scope.now.statements }
-    requires before { long_before_calls scope.now.statements ≡ None }
+    requires before { passed_before_calls scope.now.statements ≡ None }
     requires short { HaveShortNumbers (environment scope.now.header scope.now.statements).gates }
     ensures ok { OnOk result
         (Walks (environment scope.now.header scope.now.statements).gates walk.old walk.new (visits_at scope.now place)) }
@@ -80,7 +80,7 @@ pub(crate) fn walk_all(
     registers: &Registers,
 ) -> Result<Walk, ExpandFault>
     requires registers { registers.now ≡ scope.now.statements }
-    requires before { long_before_calls scope.now.statements ≡ None }
+    requires before { passed_before_calls scope.now.statements ≡ None }
     requires short { HaveShortNumbers (environment scope.now.header scope.now.statements).gates }
     ensures ok { IfOk result (IsWalked scope.now) }
     ensures err { IfErr result (IsStopped scope.now) }

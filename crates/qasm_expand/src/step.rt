@@ -1,6 +1,6 @@
 //! The walk over a call and the calls below it: a stack of the bodies that are being performed.
 
-ghost use Rattle.std.specs.Prelude.{◌≡◌, ◌≢◌, ◌<◌, ◌+◌, ◌^◌, [], ◌∷◌, length, map, zip, get_or, take, reverse, OnOk, IfOk, IfErr};
+ghost use Rattle.std.specs.Prelude.{◌≡◌, ◌≢◌, ℕ, ◌<◌, ◌+◌, ◌^◌, [], ◌∷◌, length, map, zip, get_or, take, reverse, OnOk, IfOk, IfErr};
 ghost use Rattle.std.specs.List.{AllByRecursion};
 ghost use Rattle.std.specs.Option.{option_or};
 
@@ -18,8 +18,8 @@ use zac_gates::{Bytes, List, Op};
 impl Walk {
     ghost use Rattle.qasm_expand.specs.Calls.{at_depth};
     ghost use Rattle.qasm_expand.specs.Faults.{IsFault};
-    ghost use Rattle.qasm_expand.specs.Items.Item.{Applied, Fenced, Measured};
-    ghost use Rattle.qasm_expand.specs.Limits.{long_angle, long_calls};
+    ghost use Rattle.qasm_expand.specs.Items.Item.{Applied, Barrier, Measured};
+    ghost use Rattle.qasm_expand.specs.Limits.{passed_by_angles, passed_by_calls};
     ghost use Rattle.qasm_expand.specs.Native.{ops_on};
     ghost use Rattle.qasm_expand.specs.Replacing.{body_call};
     ghost use Rattle.qasm_expand.specs.Walks.{
@@ -34,11 +34,13 @@ impl Walk {
       Writes,
       angles_in,
       behind_call,
-      long_call,
+      passed_by_call,
       pending,
     };
     ghost use Rattle.qasm_expand.specs.AngleNodes.{IsClosed, IsExprOver};
-    ghost use Rattle.qasm_expand.specs.WellBound.{IsFit, IsWellBound};
+    ghost use Rattle.qasm_expand.specs.Fit.{IsFit};
+    ghost use Rattle.qasm_expand.specs.Top.{HaveShortNumbers};
+    ghost use Rattle.qasm_scope.specs.Bound.{IsWellBound};
 
     /// Counts a call of this depth with its angles, where it stands in the body of a gate with these parameters that is
     /// called with the outer angles.
@@ -52,8 +54,8 @@ impl Walk {
     ) -> Result<List<Expr>, ExpandFault>
         ensures are { IfOk result (λ angles. angles ≡ angles_in params.now outer.now exprs.now) }
         ensures ok { IfOk result (λ angles. Counts self.old self.new depth angles) }
-        ensures err { IfErr result (IsFault (option_or (long_call self.old.calls depth)
-            (long_angle self.old.nodes (angles_in params.now outer.now exprs.now)))) }
+        ensures err { IfErr result (IsFault (option_or (passed_by_call self.old.calls depth)
+            (passed_by_angles self.old.nodes (angles_in params.now outer.now exprs.now)))) }
     {
         self.count_call(depth)?;
         self.angles(alloc, exprs, params, outer)
@@ -98,9 +100,9 @@ impl Walk {
     ///
     /// `Limit` tells the first limit that is passed.
     pub(crate) fn fence(&mut self, depth: u64) -> Result<(), ExpandFault>
-        ensures ok { OnOk result (VisitsCall self.old self.new (record { depth = depth; item = Fenced })) }
+        ensures ok { OnOk result (VisitsCall self.old self.new (record { depth = depth; item = Barrier })) }
         ensures err { IfErr result
-            (IsFault (long_calls self.old.calls self.old.nodes (record { depth = depth; item = Fenced } ∷ []))) }
+            (IsFault (passed_by_calls self.old.calls self.old.nodes (record { depth = depth; item = Barrier } ∷ []))) }
     {
         self.count_call(depth)?;
         self.ops.push(Op::Fence)?;
@@ -112,9 +114,9 @@ impl Walk {
         requires next { frame.next + 1 < 2 ^ 64 }
         ensures frames { OnOk result (reverse frames.new.items ≡ behind_call frame ∷ reverse frames.old.items) }
         ensures ok { OnOk result
-            (VisitsCall self.old self.new (record { depth = length frames.old.items + 2; item = Fenced })) }
-        ensures err { IfErr result (IsFault (long_calls self.old.calls self.old.nodes
-            (record { depth = length frames.old.items + 2; item = Fenced } ∷ []))) }
+            (VisitsCall self.old self.new (record { depth = length frames.old.items + 2; item = Barrier })) }
+        ensures err { IfErr result (IsFault (passed_by_calls self.old.calls self.old.nodes
+            (record { depth = length frames.old.items + 2; item = Barrier } ∷ []))) }
     {
         self.fence(frames.len() as u64 + 2)?;
         let next = frame.next + 1;
@@ -144,7 +146,7 @@ impl Walk {
           depth = length frames.old.items + 2;
           item = body_call (zip gate.now.params frame.angles) frame.qubits.items call.now;
         })) }
-        ensures err { IfErr result (IsFault (long_calls self.old.calls self.old.nodes (record {
+        ensures err { IfErr result (IsFault (passed_by_calls self.old.calls self.old.nodes (record {
           depth = length frames.old.items + 2;
           item = body_call (zip gate.now.params frame.angles) frame.qubits.items call.now;
         } ∷ []))) }
@@ -185,7 +187,7 @@ impl Walk {
           depth = length frames.old.items + 2;
           item = body_call (zip gate.now.params frame.angles) frame.qubits.items call.now;
         })) }
-        ensures err { IfErr result (IsFault (long_calls self.old.calls self.old.nodes (record {
+        ensures err { IfErr result (IsFault (passed_by_calls self.old.calls self.old.nodes (record {
           depth = length frames.old.items + 2;
           item = body_call (zip gate.now.params frame.angles) frame.qubits.items call.now;
         } ∷ []))) }
@@ -205,11 +207,12 @@ impl Walk {
         frames: &mut Vec<Frame>,
         frame: Frame,
     ) -> Result<(), ExpandFault>
-        requires bound { IsWellBound gates.now }
+        requires bound { (place : ℕ) → IsWellBound gates.now place }
+        requires short { HaveShortNumbers gates.now }
         requires fit { AreFit gates.now (frame ∷ reverse frames.old.items) }
         ensures ok { OnOk result
             (Steps gates.now self.old self.new (frame ∷ reverse frames.old.items) (reverse frames.new.items)) }
-        ensures err { IfErr result (IsFault (long_calls self.old.calls self.old.nodes
+        ensures err { IfErr result (IsFault (passed_by_calls self.old.calls self.old.nodes
             (take 1 (pending gates.now (frame ∷ reverse frames.old.items))))) }
     {
         let gate = &gates[frame.place as usize];
@@ -229,7 +232,8 @@ impl Walk {
         gates: &[GateDef],
         mut frames: Vec<Frame>,
     ) -> Result<(), ExpandFault>
-        requires bound { IsWellBound gates.now }
+        requires bound { (place : ℕ) → IsWellBound gates.now place }
+        requires short { HaveShortNumbers gates.now }
         requires fit { AreFit gates.now (reverse frames.items) }
         ensures ok { OnOk result (Walks gates.now self.old self.new (pending gates.now (reverse frames.items))) }
         ensures err { IfErr result (Passes gates.now self.old (pending gates.now (reverse frames.items))) }
@@ -251,7 +255,8 @@ impl Walk {
         angles: &[Expr],
         qubits: SmallVec<u32, 4>,
     ) -> Result<(), ExpandFault>
-        requires bound { IsWellBound gates.now }
+        requires bound { (place : ℕ) → IsWellBound gates.now place }
+        requires short { HaveShortNumbers gates.now }
         requires fit { IsFit gates.now (Applied target angles.now qubits.items) }
         ensures ok { OnOk result
             (Walks gates.now self.old self.new (at_depth 1 (Applied target angles.now qubits.items ∷ []))) }
@@ -270,7 +275,7 @@ impl Walk {
         ensures ok { OnOk result
             (VisitsCall self.old self.new (record { depth = 1; item = Measured qubit bit })) }
         ensures err { IfErr result
-            (IsFault (long_calls self.old.calls self.old.nodes (record { depth = 1; item = Measured qubit bit } ∷ []))) }
+            (IsFault (passed_by_calls self.old.calls self.old.nodes (record { depth = 1; item = Measured qubit bit } ∷ []))) }
     {
         self.count_call(1)?;
         self.ops.push(Op::Read { q: qubit, bit })?;

@@ -4,12 +4,13 @@ ghost use Rattle.std.specs.Prelude.{◌≡◌, ℕ, ◌<◌, ◌∷◌, [], List
 ghost use Rattle.std.specs.List.{AllByRecursion};
 ghost use Rattle.qasm_scope.specs.declared.gate.GateDef.{GateDef};
 ghost use Rattle.qasm_scope.specs.Applications.{applications, applied};
+ghost use Rattle.qasm_scope.specs.Bound.{IsWellBound};
 ghost use Rattle.qasm_expand.specs.AngleNodes.{IsClosed};
+ghost use Rattle.qasm_expand.specs.Fit.{Suits};
 ghost use Rattle.qasm_expand.specs.RegisterKinds.{IsPlaceIn};
 ghost use Rattle.qasm_expand.specs.Sized.{sized};
-ghost use Rattle.qasm_expand.specs.Top.{visits_of, readings_of};
+ghost use Rattle.qasm_expand.specs.Top.{HaveShortNumbers, visits_of, readings_of};
 ghost use Rattle.qasm_expand.specs.Walks.{Walks, Passes};
-ghost use Rattle.qasm_expand.specs.WellBound.{IsWellBound, Suits};
 ghost use Rattle.qasm_expand.specs.declared.kind.RegisterKind.{RegisterKind};
 
 use crate::fault::ExpandFault;
@@ -28,7 +29,8 @@ pub(crate) fn apply_all(
     call: &BodyOp,
     registers: &Registers,
 ) -> Result<(), ExpandFault>
-    requires bound { IsWellBound gates.now }
+    requires bound { (place : ℕ) → IsWellBound gates.now place }
+    requires short { HaveShortNumbers gates.now }
     requires closed { AllByRecursion IsClosed call.now.exprs }
     requires suits { Suits gates.now target (length call.now.exprs) (length call.now.args) }
     requires places { (k : ℕ) → k < applications (sized registers.now) call.now.args

@@ -2,7 +2,7 @@
 
 ghost use Rattle.std.specs.Prelude.{◌≤◌};
 
-use crate::angle_limit::{past, put_in_within};
+use crate::angle_limit::{past, substitute_within};
 use crate::fault::{ExpandFault, LimitKind};
 use crate::limit::refuse;
 use qasm_parse::Expr;
@@ -30,10 +30,10 @@ pub(crate) struct Walk {
 
 impl Walk {
     ghost use Rattle.std.specs.Prelude.{◌≡◌, [], ◌∷◌, map, zip, OnOk, IfOk, IfErr};
-    ghost use Rattle.qasm_expand.specs.Angles.{put_in};
+    ghost use Rattle.qasm_expand.specs.Angles.{substitute};
     ghost use Rattle.qasm_expand.specs.Faults.{IsLimit, IsFault};
-    ghost use Rattle.qasm_expand.specs.Limits.{long_angle};
-    ghost use Rattle.qasm_expand.specs.Walks.{CountsCall, CountsAngles, long_call, angles_in};
+    ghost use Rattle.qasm_expand.specs.Limits.{passed_by_angles};
+    ghost use Rattle.qasm_expand.specs.Walks.{CountsCall, CountsAngles, passed_by_call, angles_in};
 
     /// Nothing is counted or written.
     pub(crate) fn new(alloc: Global) -> Walk
@@ -60,7 +60,7 @@ impl Walk {
     /// `Limit` tells the first limit that is passed.
     pub(crate) fn count_call(&mut self, depth: u64) -> Result<(), ExpandFault>
         ensures ok { OnOk result (CountsCall self.old self.new depth) }
-        ensures err { IfErr result (IsLimit (long_call self.old.calls depth)) }
+        ensures err { IfErr result (IsLimit (passed_by_call self.old.calls depth)) }
     {
         let calls = self.calls + 1;
         refuse(past(LimitKind::Calls, MOST_CALLS, calls as u128))?;
@@ -77,12 +77,12 @@ impl Walk {
         params: &[Bytes],
         outer: &[Expr],
     ) -> Result<Expr, ExpandFault>
-        ensures is { IfOk result (λ angle. angle ≡ put_in (zip params.now outer.now) expr.now) }
+        ensures is { IfOk result (λ angle. angle ≡ substitute (zip params.now outer.now) expr.now) }
         ensures ok { IfOk result (λ angle. CountsAngles self.old self.new (angle ∷ [])) }
         ensures err { IfErr result
-            (IsFault (long_angle self.old.nodes (put_in (zip params.now outer.now) expr.now ∷ []))) }
+            (IsFault (passed_by_angles self.old.nodes (substitute (zip params.now outer.now) expr.now ∷ []))) }
     {
-        let angle = put_in_within(alloc, self.nodes, expr, params, outer)?;
+        let angle = substitute_within(alloc, self.nodes, expr, params, outer)?;
         self.nodes += angle.as_slice().len() as u64;
         Ok(angle)
     }
@@ -98,7 +98,7 @@ impl Walk {
     ) -> Result<List<Expr>, ExpandFault>
         ensures are { IfOk result (λ angles. angles ≡ angles_in params.now outer.now exprs.now) }
         ensures ok { IfOk result (λ angles. CountsAngles self.old self.new angles) }
-        ensures err { IfErr result (IsFault (long_angle self.old.nodes (angles_in params.now outer.now exprs.now))) }
+        ensures err { IfErr result (IsFault (passed_by_angles self.old.nodes (angles_in params.now outer.now exprs.now))) }
     {
         let mut angles = Vec::new(alloc);
         for expr in exprs {

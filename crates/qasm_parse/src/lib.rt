@@ -1,6 +1,7 @@
 //! The statements of OpenQASM 2.0 (Cross et al. 2017), read from the tokens of a source.
 #![tactic(auto)]
 
+mod copy;
 mod cursor;
 mod declaration;
 pub mod expr;

@@ -21,8 +21,8 @@ use Rattle.qasm_parse.specs.declared.stmt.Stmt.TheVariants as stmt
 use Rattle.qasm_scope.specs.Environment.{words_of, bound_call, bound_gate, with_gate, with_name, enter, after, nothing, opening, environment}
 use Rattle.qasm_scope.specs.Names.{Environment, meaning, own_meaning, callee, callee_of, target_of, value_or}
 use Rattle.qasm_scope.specs.Refusals.{HasOtherParams, HasOtherArity, RepeatsWord, UsesOther, UsesUndeclared}
-use Rattle.qasm_scope.specs.Scopes.{AreFineInHeader}
-use Rattle.qasm_scope.specs.Accepted.{AreFine}
+use Rattle.qasm_scope.specs.Scopes.{AreAdmissibleInHeader}
+use Rattle.qasm_scope.specs.Accepted.{AreAdmissible}
 use Rattle.qasm_scope.specs.declared.fault.ScopeKind.TheVariants as kind
 use Rattle.qasm_scope.specs.declared.gate.Bound.{Bound}
 use Rattle.qasm_scope.specs.declared.meaning.Callee.{Callee}
@@ -175,7 +175,7 @@ takes_callee e h name = u (bytes_eq name (codes "U")) (bytes_eq name (codes "CX"
 same_number : (a b : ℕ) → (a ≢ b → ⊥) → a ≡ b
 same_number a b h = elim (cases_eq a b) [ inl same ↦ same | inr other ↦ absurd (h other) ]
 
-module _ (e : Environment) (before : List Stmt) (name : List ℕ) (params args : List Named) (body : List BodyOp) (from : ℕ) (sound : IsSound e) (fine : HasNoRefusal e before (stmt.Gate name params args body from)) where
+module _ (e : Environment) (before : List Stmt) (name : List ℕ) (params args : List Named) (body : List BodyOp) (from : ℕ) (sound : IsSound e) (admissible : HasNoRefusal e before (stmt.Gate name params args body from)) where
   module _ (i : ℕ) (op : BodyOp) (at : slice_get body i ≡ Some op) where
     -- it takes what its target takes
     op_takes : Takes e.gates (length e.gates) (length op.exprs) (length op.args) (value_or (target_of (callee e op.name)) target.Barrier)
@@ -186,20 +186,20 @@ module _ (e : Environment) (before : List Stmt) (name : List ℕ) (params args :
         by calls.Opaque p t = tt
         by calls.Barrier p t = tt
         by (calls.Gate g n m) p t =
-            let other_params : length op.exprs ≢ n → ⊥ = λ ne. fine kind.Params op.at (Any-at (λ call. HasOtherParams (callee e call.name) call × (op.at ≡ call.at)) body i op at (let P : Callee → Type 0 = λ c. HasOtherParams c op in subst P (sym p) ne, refl)) in
-            let other_arity : length op.args ≢ m → ⊥ = λ ne. fine kind.Arity op.at (Any-at (λ call. HasOtherArity (callee e call.name) call × (op.at ≡ call.at)) body i op at (let P : Callee → Type 0 = λ c. HasOtherArity c op in subst P (sym p) ne, refl)) in
+            let other_params : length op.exprs ≢ n → ⊥ = λ ne. admissible kind.Params op.at (Any-at (λ call. HasOtherParams (callee e call.name) call × (op.at ≡ call.at)) body i op at (let P : Callee → Type 0 = λ c. HasOtherParams c op in subst P (sym p) ne, refl)) in
+            let other_arity : length op.args ≢ m → ⊥ = λ ne. admissible kind.Arity op.at (Any-at (λ call. HasOtherArity (callee e call.name) call × (op.at ≡ call.at)) body i op at (let P : Callee → Type 0 = λ c. HasOtherArity c op in subst P (sym p) ne, refl)) in
             t (length op.exprs) (length op.args) (same_number (length op.exprs) n other_params) (same_number (length op.args) m other_arity)
 
     -- each argument is one of the gate's
     op_contains : (j : ℕ) (arg : Arg) → slice_get op.args j ≡ Some arg → Contains (words_of args) arg.word
     op_contains j arg there = has_word (words_of args) arg.word (λ no.
-        fine kind.Name arg.at (inr (Any-at (UsesUndeclared (words_of params) (words_of args) arg.at) body i op at
+        admissible kind.Name arg.at (inr (Any-at (UsesUndeclared (words_of params) (words_of args) arg.at) body i op at
         (inl (Any-at (λ other. (¬ Contains (words_of args) other.word) × (arg.at ≡ other.at)) op.args j arg there (no, refl))))))
 
     -- each name of an expression is one of its parameters
     op_names : (j : ℕ) (expr : Expr) → slice_get op.exprs j ≡ Some expr → (k : ℕ) (n : Node) → slice_get expr k ≡ Some n → NamesOneOf (words_of params) n
     op_names j expr there k (node.Name word offset) here = has_word (words_of params) word (λ no.
-        fine kind.Name offset (inr (Any-at (UsesUndeclared (words_of params) (words_of args) offset) body i op at
+        admissible kind.Name offset (inr (Any-at (UsesUndeclared (words_of params) (words_of args) offset) body i op at
         (inr (Any-at (λ (x : Expr). Any (UsesOther (words_of params) offset) x) op.exprs j expr there
         (Any-at (UsesOther (words_of params) offset) expr k (node.Name word offset) here (no, refl)))))))
     op_names j expr there k other here = tt
@@ -207,7 +207,7 @@ module _ (e : Environment) (before : List Stmt) (name : List ℕ) (params args :
     -- two arguments of a call that is no barrier differ
     op_apart : op.name ≢ codes "barrier" → (j k : ℕ) (a b : Arg) → j < k → slice_get op.args j ≡ Some a → slice_get op.args k ≡ Some b → a.word ≢ b.word
     op_apart unlike j k a b below x y same =
-        fine kind.Repeated op.at (Any-at (λ other. RepeatsWord other × (op.at ≡ other.at)) body i op at ((unlike, (j, k, a, b, below, x, y, same)), refl))
+        admissible kind.Repeated op.at (Any-at (λ other. RepeatsWord other × (op.at ≡ other.at)) body i op at ((unlike, (j, k, a, b, below, x, y, same)), refl))
 
 -- the place of a word among these
 abbrev pub place_in : List (List ℕ) → Arg → ℕ
@@ -232,7 +232,7 @@ places_apart ws xs contains differ j k d below within same =
     let one : place_in ws first.0 ≡ place_in ws second.0 = sym first.2 ∙ same ∙ second.2 in
     differ j k first.0 second.0 below first.1 second.1 (some_same (sym x ∙ ap (λ n. slice_get ws n) one ∙ y))
 
-module _ (e : Environment) (before : List Stmt) (name : List ℕ) (params args : List Named) (body : List BodyOp) (from : ℕ) (sound : IsSound e) (fine : HasNoRefusal e before (stmt.Gate name params args body from)) where
+module _ (e : Environment) (before : List Stmt) (name : List ℕ) (params args : List Named) (body : List BodyOp) (from : ℕ) (sound : IsSound e) (admissible : HasNoRefusal e before (stmt.Gate name params args body from)) where
   abbrev new_gate : GateDef
   new_gate = bound_gate e params args body
 
@@ -243,8 +243,8 @@ module _ (e : Environment) (before : List Stmt) (name : List ℕ) (params args :
       by true p = let P : List ℕ → Type 0 = λ n. AreApart (map (place_in (words_of args)) op.args) (value_or (target_of (callee e n)) target.Barrier) in
           subst P (sym ((bytes_decides op.name (codes "barrier")).0 p)) tt
       by false p = apart_from (map (place_in (words_of args)) op.args) (value_or (target_of (callee e op.name)) target.Barrier)
-          (places_apart (words_of args) op.args (op_contains e before name params args body from sound fine i op at)
-          (op_apart e before name params args body from sound fine i op at (λ same. false≢true (sym p ∙ (bytes_decides op.name (codes "barrier")).1 same))))
+          (places_apart (words_of args) op.args (op_contains e before name params args body from sound admissible i op at)
+          (op_apart e before name params args body from sound admissible i op at (λ same. false≢true (sym p ∙ (bytes_decides op.name (codes "barrier")).1 same))))
 
   -- a call of the new gate
   new_call : (i : ℕ) (call : Bound) → slice_get new_gate.body i ≡ Some call → IsWellBoundCall (e.gates ++ new_gate ∷ []) (length e.gates) new_gate call
@@ -254,16 +254,16 @@ module _ (e : Environment) (before : List Stmt) (name : List ℕ) (params args :
       let ws = words_of args in
       let bound = bound_call e ws op in
       let Q : ℕ → Type 0 = λ n. Takes e.gates (length e.gates) (length op.exprs) n bound.target in
-      let takes = subst Q (sym (length-map op.args (place_in ws))) (op_takes e before name params args body from sound fine i op found.1) in
+      let takes = subst Q (sym (length-map op.args (place_in ws))) (op_takes e before name params args body from sound admissible i op found.1) in
       let P : Bound → Type 0 = λ c. IsWellBoundCall (e.gates ++ new_gate ∷ []) (length e.gates) new_gate c in
       subst P (sym found.2) (record {
         takes = takes-front e.gates (new_gate ∷ []) (length e.gates) (length op.exprs) (length bound.args) bound.target takes;
         within = All-from_get (λ k. k < length args) bound.args (λ j k there.
             let arg = slice_get-mapped (place_in ws) op.args j k there in
-            let below : place_in ws arg.0 < length ws = slice_get_within ws (place_in ws arg.0) arg.0.word (position-found ws arg.0.word (op_contains e before name params args body from sound fine i op found.1 j arg.0 arg.1)) in
+            let below : place_in ws arg.0 < length ws = slice_get_within ws (place_in ws arg.0) arg.0.word (position-found ws arg.0.word (op_contains e before name params args body from sound admissible i op found.1 j arg.0 arg.1)) in
             omega (arith, below, arg.2, length-map args (λ (n : Named). n.word)));
         apart = op_separate i op found.1;
-        names = All-from_get (λ (expr : Expr). All (NamesOneOf (words_of params)) expr) op.exprs (λ j expr there. All-from_get (NamesOneOf (words_of params)) expr (op_names e before name params args body from sound fine i op found.1 j expr there));
+        names = All-from_get (λ (expr : Expr). All (NamesOneOf (words_of params)) expr) op.exprs (λ j expr there. All-from_get (NamesOneOf (words_of params)) expr (op_names e before name params args body from sound admissible i op found.1 j expr there));
       })
 
   IsSound-with_gate : IsSound (with_gate e name params args body)
@@ -302,12 +302,12 @@ IsSound-with_name e name m fits sound = record {
 }
 
 IsSound-enter : (e : Environment) (before : List Stmt) (s : Stmt) → IsSound e → HasNoRefusal e before s → IsSound (enter e s)
-IsSound-enter e before (stmt.Include name at) sound fine = record { header = sound.header; own = sound.own; bound = sound.bound }
-IsSound-enter e before (stmt.Qreg name size at) sound fine = IsSound-with_name e name (means.Qubits size) tt sound
-IsSound-enter e before (stmt.Creg name size at) sound fine = IsSound-with_name e name (means.Bits size) tt sound
-IsSound-enter e before (stmt.Gate name params args body at) sound fine = IsSound-with_gate e before name params args body at sound fine
-IsSound-enter e before (stmt.Opaque name params args at) sound fine = IsSound-with_name e name means.Opaque tt sound
-IsSound-enter e before other sound fine = sound
+IsSound-enter e before (stmt.Include name at) sound admissible = record { header = sound.header; own = sound.own; bound = sound.bound }
+IsSound-enter e before (stmt.Qreg name size at) sound admissible = IsSound-with_name e name (means.Qubits size) tt sound
+IsSound-enter e before (stmt.Creg name size at) sound admissible = IsSound-with_name e name (means.Bits size) tt sound
+IsSound-enter e before (stmt.Gate name params args body at) sound admissible = IsSound-with_gate e before name params args body at sound admissible
+IsSound-enter e before (stmt.Opaque name params args at) sound admissible = IsSound-with_name e name means.Opaque tt sound
+IsSound-enter e before other sound admissible = sound
 
 IsSound-nothing : IsSound nothing
 IsSound-nothing = record {
@@ -316,17 +316,17 @@ IsSound-nothing = record {
   bound = λ place gate there. absurd (none_is_some there);
 }
 
-IsSound-in_header : (before ss : List Stmt) → IsSound (after nothing before) → AreFineInHeader before ss → IsSound (after nothing (before ++ ss))
-IsSound-in_header before [] sound fine = let P : List Stmt → Type 0 = λ l. IsSound (after nothing l) in subst P (sym (append-nil before)) sound
-IsSound-in_header before (s ∷ ss) sound fine =
+IsSound-in_header : (before ss : List Stmt) → IsSound (after nothing before) → AreAdmissibleInHeader before ss → IsSound (after nothing (before ++ ss))
+IsSound-in_header before [] sound admissible = let P : List Stmt → Type 0 = λ l. IsSound (after nothing l) in subst P (sym (append-nil before)) sound
+IsSound-in_header before (s ∷ ss) sound admissible =
     let P : List Stmt → Type 0 = λ l. IsSound (after nothing l) in
     let Q : Environment → Type 0 = λ e. IsSound e in
-    let next = subst Q (sym (after-push nothing before s)) (IsSound-enter (after nothing before) before s sound fine.0.fine) in
-    subst P (append_assoc before (s ∷ []) ss) (IsSound-in_header (before ++ s ∷ []) ss next fine.1)
+    let next = subst Q (sym (after-push nothing before s)) (IsSound-enter (after nothing before) before s sound admissible.0.admissible) in
+    subst P (append_assoc before (s ∷ []) ss) (IsSound-in_header (before ++ s ∷ []) ss next admissible.1)
 
-IsSound-opening : (header : List Stmt) → AreFineInHeader [] header → IsSound (opening header)
-IsSound-opening header fine =
-    let sound = IsSound-in_header [] header IsSound-nothing fine in
+IsSound-opening : (header : List Stmt) → AreAdmissibleInHeader [] header → IsSound (opening header)
+IsSound-opening header admissible =
+    let sound = IsSound-in_header [] header IsSound-nothing admissible in
     record {
       header = λ n m is. elim (lookup-pushed (bytes_eq n) (after nothing header).own (codes "cz") means.Native m is) [
         | inl old ↦ sound.own n m old
@@ -336,17 +336,17 @@ IsSound-opening header fine =
       bound = sound.bound;
     }
 
-IsSound-environment : (header before ss : List Stmt) → IsSound (environment header before) → AreFine header before ss → IsSound (environment header (before ++ ss))
-IsSound-environment header before [] sound fine = let P : List Stmt → Type 0 = λ l. IsSound (environment header l) in subst P (sym (append-nil before)) sound
-IsSound-environment header before (s ∷ ss) sound fine =
+IsSound-environment : (header before ss : List Stmt) → IsSound (environment header before) → AreAdmissible header before ss → IsSound (environment header (before ++ ss))
+IsSound-environment header before [] sound admissible = let P : List Stmt → Type 0 = λ l. IsSound (environment header l) in subst P (sym (append-nil before)) sound
+IsSound-environment header before (s ∷ ss) sound admissible =
     let P : List Stmt → Type 0 = λ l. IsSound (environment header l) in
     let Q : Environment → Type 0 = λ e. IsSound e in
-    let next = subst Q (sym (after-push (opening header) before s)) (IsSound-enter (environment header before) before s sound fine.0) in
-    subst P (append_assoc before (s ∷ []) ss) (IsSound-environment header (before ++ s ∷ []) ss next fine.1)
+    let next = subst Q (sym (after-push (opening header) before s)) (IsSound-enter (environment header before) before s sound admissible.0) in
+    subst P (append_assoc before (s ∷ []) ss) (IsSound-environment header (before ++ s ∷ []) ss next admissible.1)
 
--- behind a header and statements that are fine each gate is well bound
-pub IsWellBound-fine : (header ss : List Stmt) → AreFineInHeader [] header → AreFine header [] ss → (place : ℕ) → IsWellBound (environment header ss).gates place
-IsWellBound-fine header ss fine all = (IsSound-environment header [] ss (IsSound-opening header fine) all).bound
+-- behind a header and statements that are admissible each gate is well bound
+pub IsWellBound-admissible : (header ss : List Stmt) → AreAdmissibleInHeader [] header → AreAdmissible header [] ss → (place : ℕ) → IsWellBound (environment header ss).gates place
+IsWellBound-admissible header ss admissible all = (IsSound-environment header [] ss (IsSound-opening header admissible) all).bound
 
 -- a statement's gates stand behind those before it
 enter_gates : (e : Environment) (s : Stmt) → (rest : List GateDef) × ((enter e s).gates ≡ e.gates ++ rest)

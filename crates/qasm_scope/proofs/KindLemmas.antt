@@ -42,8 +42,9 @@ pub name_call : {s : Stmt} {call : BodyOp} {exprs : List Expr} {o : Option ℕ} 
 name_call {o} is same h =
     subst (λ (x : Stmt). IsLeastOffset (HasName x) o) (sym is) (subst (λ (xs : List Expr). IsLeastOffset (UsesOtherIn [] xs) o) same h)
 
-pub of_kind : (e : Environment) (before : List Stmt) (s : Stmt) {k l : ScopeKind} {o : Option ℕ} → k ≡ l → IsLeastOffset (Refuses e before s l) o → IsLeastOffset (Refuses e before s k) o
-of_kind e before s {o} same h = subst (λ (x : ScopeKind). IsLeastOffset (Refuses e before s x) o) (sym same) h
+pub of_kind : {d e : Environment} (before : List Stmt) (s : Stmt) {k l : ScopeKind} {o : Option ℕ} → d ≡ e → k ≡ l → IsLeastOffset (Refuses d before s l) o → IsLeastOffset (Refuses e before s k) o
+of_kind {d} before s {k} {o} known same h =
+    subst (λ (x : Environment). IsLeastOffset (Refuses x before s k) o) known (subst (λ (x : ScopeKind). IsLeastOffset (Refuses d before s x) o) (sym same) h)
 
 -- none of the first kinds has a refusal
 abbrev pub NoneOfFirst : Environment → List Stmt → Stmt → ℕ → Type 0

@@ -13,12 +13,12 @@ use Rattle.qasm_scope.specs.declared.gate.Target.{Target}
 use Rattle.qasm_scope.specs.declared.gate.Target.TheVariants as target
 use Rattle.qasm_scope.specs.declared.meaning.Callee.{Callee}
 use Rattle.qasm_scope.specs.declared.meaning.Callee.TheVariants as calls
-use Rattle.qasm_scope.specs.Accepted.{AreFine, IsFine, Situation, behind}
+use Rattle.qasm_scope.specs.Accepted.{AreAdmissible, IsAdmissible, Context, behind}
 use Rattle.qasm_scope.specs.Entering.{DeclaresNew}
 use Rattle.qasm_scope.specs.Environment.{enter, after, nothing, opening, environment}
 use Rattle.qasm_scope.specs.Names.{Environment, own_meaning, callee, target_of, value_or}
 use Rattle.qasm_scope.specs.Refusals.{Refuses}
-use Rattle.qasm_scope.specs.Scopes.{AreFineInHeader, IsFineInHeader, IsReadHeader, IsScope, bound_target, bound_targets}
+use Rattle.qasm_scope.specs.Scopes.{AreAdmissibleInHeader, IsAdmissibleInHeader, IsReadHeader, IsScope, bound_target, bound_targets}
 
 -- no refusal of a statement
 abbrev pub HasNoRefusal : Environment → List Stmt → Stmt → Type 0
@@ -28,17 +28,17 @@ pub after-push : (e : Environment) (ss : List Stmt) (s : Stmt) → after e (ss +
 after-push e [] s = refl
 after-push e (x ∷ ss) s = after-push (enter e x) ss s
 
-pub AreFine-push : (header before ss : List Stmt) (s : Stmt) → AreFine header before ss → IsFine header (before ++ ss) s → AreFine header before (ss ++ s ∷ [])
-AreFine-push header before [] s fine here = let P : List Stmt → Type 0 = λ l. IsFine header l s in (subst P (append-nil before) here, tt)
-AreFine-push header before (x ∷ ss) s fine here =
-    let P : List Stmt → Type 0 = λ l. IsFine header l s in
-    (fine.0, AreFine-push header (before ++ x ∷ []) ss s fine.1 (subst P (sym (append_assoc before (x ∷ []) ss)) here))
+pub AreAdmissible-push : (header before ss : List Stmt) (s : Stmt) → AreAdmissible header before ss → IsAdmissible header (before ++ ss) s → AreAdmissible header before (ss ++ s ∷ [])
+AreAdmissible-push header before [] s admissible here = let P : List Stmt → Type 0 = λ l. IsAdmissible header l s in (subst P (append-nil before) here, tt)
+AreAdmissible-push header before (x ∷ ss) s admissible here =
+    let P : List Stmt → Type 0 = λ l. IsAdmissible header l s in
+    (admissible.0, AreAdmissible-push header (before ++ x ∷ []) ss s admissible.1 (subst P (sym (append_assoc before (x ∷ []) ss)) here))
 
-pub AreFineInHeader-push : (before ss : List Stmt) (s : Stmt) → AreFineInHeader before ss → IsFineInHeader (before ++ ss) s → AreFineInHeader before (ss ++ s ∷ [])
-AreFineInHeader-push before [] s fine here = let P : List Stmt → Type 0 = λ l. IsFineInHeader l s in (subst P (append-nil before) here, tt)
-AreFineInHeader-push before (x ∷ ss) s fine here =
-    let P : List Stmt → Type 0 = λ l. IsFineInHeader l s in
-    (fine.0, AreFineInHeader-push (before ++ x ∷ []) ss s fine.1 (subst P (sym (append_assoc before (x ∷ []) ss)) here))
+pub AreAdmissibleInHeader-push : (before ss : List Stmt) (s : Stmt) → AreAdmissibleInHeader before ss → IsAdmissibleInHeader (before ++ ss) s → AreAdmissibleInHeader before (ss ++ s ∷ [])
+AreAdmissibleInHeader-push before [] s admissible here = let P : List Stmt → Type 0 = λ l. IsAdmissibleInHeader l s in (subst P (append-nil before) here, tt)
+AreAdmissibleInHeader-push before (x ∷ ss) s admissible here =
+    let P : List Stmt → Type 0 = λ l. IsAdmissibleInHeader l s in
+    (admissible.0, AreAdmissibleInHeader-push (before ++ x ∷ []) ss s admissible.1 (subst P (sym (append_assoc before (x ∷ []) ss)) here))
 
 pub bound_targets-push : (e : Environment) (ss : List Stmt) (s : Stmt) → bound_targets e (ss ++ s ∷ []) ≡ bound_targets e ss ++ bound_target (after e ss) s ∷ []
 bound_targets-push e [] s = refl
@@ -55,21 +55,21 @@ bound_targets-at e (x ∷ ss) zero s h = ap Some (ap (λ y. bound_target e y) (s
     same p = cc
 bound_targets-at e (x ∷ ss) (suc i) s h = bound_targets-at (enter e x) ss i s h
 
-pub AreFine-at : (header before ss : List Stmt) (i : ℕ) (s : Stmt) → AreFine header before ss → slice_get ss i ≡ Some s → IsFine header (before ++ take i ss) s
-AreFine-at header before [] i s fine h = absurd (none_is_some h)
+pub AreAdmissible-at : (header before ss : List Stmt) (i : ℕ) (s : Stmt) → AreAdmissible header before ss → slice_get ss i ≡ Some s → IsAdmissible header (before ++ take i ss) s
+AreAdmissible-at header before [] i s admissible h = absurd (none_is_some h)
   where
     none_is_some : None ≡ Some s → ⊥
     none_is_some p = cc
-AreFine-at header before (x ∷ ss) zero s fine h =
-    let P : Stmt → Type 0 = λ y. IsFine header (before ++ []) y in
-    let Q : List Stmt → Type 0 = λ l. IsFine header l x in
-    subst P (same h) (subst Q (sym (append-nil before)) fine.0)
+AreAdmissible-at header before (x ∷ ss) zero s admissible h =
+    let P : Stmt → Type 0 = λ y. IsAdmissible header (before ++ []) y in
+    let Q : List Stmt → Type 0 = λ l. IsAdmissible header l x in
+    subst P (same h) (subst Q (sym (append-nil before)) admissible.0)
   where
     same : Some x ≡ Some s → x ≡ s
     same p = cc
-AreFine-at header before (x ∷ ss) (suc i) s fine h =
-    let P : List Stmt → Type 0 = λ l. IsFine header l s in
-    subst P (append_assoc before (x ∷ []) (take i ss)) (AreFine-at header (before ++ x ∷ []) ss i s fine.1 h)
+AreAdmissible-at header before (x ∷ ss) (suc i) s admissible h =
+    let P : List Stmt → Type 0 = λ l. IsAdmissible header l s in
+    subst P (append_assoc before (x ∷ []) (take i ss)) (AreAdmissible-at header (before ++ x ∷ []) ss i s admissible.1 h)
 
 none_unless : {X : Type 0} (o : Option X) → (o ≢ None → ⊥) → o ≡ None
 none_unless None h = refl
@@ -88,37 +88,37 @@ new_name : (e : Environment) (name x : List ℕ) → (own_meaning e name ≢ Non
 new_name e name x h p = let P : List ℕ → Type 0 = λ n. own_meaning e n ≡ None in subst P (some_same p) (none_unless (own_meaning e name) h)
 
 -- a statement with no refusal declares no name that the file has declared
-pub DeclaresNew-fine : (e : Environment) (before : List Stmt) (s : Stmt) → HasNoRefusal e before s → DeclaresNew e s
-DeclaresNew-fine e before (stmt.Qreg name size at) fine = λ x p. new_name e name x (λ d. fine kind.Redeclared at (inl d, refl)) p
-DeclaresNew-fine e before (stmt.Creg name size at) fine = λ x p. new_name e name x (λ d. fine kind.Redeclared at (inl d, refl)) p
-DeclaresNew-fine e before (stmt.Gate name params args body at) fine = λ x p. new_name e name x (λ d. fine kind.Redeclared at (inl d, refl)) p
-DeclaresNew-fine e before (stmt.Opaque name params args at) fine = λ x p. new_name e name x (λ d. fine kind.Redeclared at (inl d, refl)) p
-DeclaresNew-fine e before other fine = λ x p. absurd (none_is_some p)
+pub DeclaresNew-admissible : (e : Environment) (before : List Stmt) (s : Stmt) → HasNoRefusal e before s → DeclaresNew e s
+DeclaresNew-admissible e before (stmt.Qreg name size at) admissible = λ x p. new_name e name x (λ d. admissible kind.Redeclared at (inl d, refl)) p
+DeclaresNew-admissible e before (stmt.Creg name size at) admissible = λ x p. new_name e name x (λ d. admissible kind.Redeclared at (inl d, refl)) p
+DeclaresNew-admissible e before (stmt.Gate name params args body at) admissible = λ x p. new_name e name x (λ d. admissible kind.Redeclared at (inl d, refl)) p
+DeclaresNew-admissible e before (stmt.Opaque name params args at) admissible = λ x p. new_name e name x (λ d. admissible kind.Redeclared at (inl d, refl)) p
+DeclaresNew-admissible e before other admissible = λ x p. absurd (none_is_some p)
 
 -- a call with no refusal is bound to what it names
-pub target-fine : (e : Environment) (before : List Stmt) (call : BodyOp) → HasNoRefusal e before (stmt.Call call) → Some (bound_target e (stmt.Call call)) ≡ target_of (callee e call.name)
-target-fine e before call fine = by (callee e call.name) refl
+pub target-admissible : (e : Environment) (before : List Stmt) (call : BodyOp) → HasNoRefusal e before (stmt.Call call) → Some (bound_target e (stmt.Call call)) ≡ target_of (callee e call.name)
+target-admissible e before call admissible = by (callee e call.name) refl
   where
     by : (c : Callee) → callee e call.name ≡ c → Some (value_or (target_of c) target.Barrier) ≡ target_of c
-    by calls.Unknown p = absurd (fine kind.UnknownGate call.at (0, call, lit< tt, refl, (p, refl)))
-    by calls.Opaque p = absurd (fine kind.Opaque call.at (0, call, lit< tt, refl, (p, refl)))
+    by calls.Unknown p = absurd (admissible kind.UnknownGate call.at (0, call, lit< tt, refl, (p, refl)))
+    by calls.Opaque p = absurd (admissible kind.Opaque call.at (0, call, lit< tt, refl, (p, refl)))
     by calls.Barrier p = refl
     by (calls.Gate t params args) p = refl
 
--- the judgement, where the situation has another name
-pub IsFine-from : (header now_header before now : List Stmt) (e : Environment) (s : Stmt) → e ≡ environment header before → header ≡ now_header → before ≡ now → HasNoRefusal e before s → IsFine now_header now s
-IsFine-from header now_header before now e s means h b fine = λ k at refuses.
+-- the judgement, where the context has another name
+pub IsAdmissible-from : (header now_header before now : List Stmt) (e : Environment) (s : Stmt) → e ≡ environment header before → header ≡ now_header → before ≡ now → HasNoRefusal e before s → IsAdmissible now_header now s
+IsAdmissible-from header now_header before now e s means h b admissible = λ k at refuses.
     let P : Environment → Type 0 = λ x. Refuses x before s k at in
     let Q : List Stmt → Type 0 = λ l. Refuses (environment now_header l) l s k at in
     let R : List Stmt → Type 0 = λ l. Refuses (environment l before) before s k at in
-    fine k at (subst P (sym means) (subst R (sym h) (subst Q (sym b) refuses)))
+    admissible k at (subst P (sym means) (subst R (sym h) (subst Q (sym b) refuses)))
 
-pub IsFine-to : (header now_header before now : List Stmt) (e : Environment) (s : Stmt) → e ≡ environment header before → header ≡ now_header → before ≡ now → IsFine now_header now s → HasNoRefusal e before s
-IsFine-to header now_header before now e s means h b fine = λ k at refuses.
+pub IsAdmissible-to : (header now_header before now : List Stmt) (e : Environment) (s : Stmt) → e ≡ environment header before → header ≡ now_header → before ≡ now → IsAdmissible now_header now s → HasNoRefusal e before s
+IsAdmissible-to header now_header before now e s means h b admissible = λ k at refuses.
     let P : Environment → Type 0 = λ x. Refuses x before s k at in
     let Q : List Stmt → Type 0 = λ l. Refuses (environment now_header l) l s k at in
     let R : List Stmt → Type 0 = λ l. Refuses (environment l before) before s k at in
-    fine k at (subst Q b (subst R h (subst P means refuses)))
+    admissible k at (subst Q b (subst R h (subst P means refuses)))
 
 -- no refusal was found
 pub none_found : {X : Type 0} (o : Option X) (P : Type 0) (Q : X → Type 0) → is_some o ≡ false → MatchOption o P Q → P
@@ -126,12 +126,12 @@ none_found None P Q h m = m
 none_found (Some x) P Q h m = absurd (false≢true (sym h))
 
 -- one statement more
-pub IsScope-push : (header : List Stmt) (now : Situation) (targets : List Target) (s : Stmt) → IsScope header now targets → IsFine header now.before s → IsScope header (behind now s) (targets ++ bound_target now.environment s ∷ [])
-IsScope-push header now targets s h fine = record {
+pub IsScope-push : (header : List Stmt) (now : Context) (targets : List Target) (s : Stmt) → IsScope header now targets → IsAdmissible header now.before s → IsScope header (behind now s) (targets ++ bound_target now.environment s ∷ [])
+IsScope-push header now targets s h admissible = record {
   means = ap (λ e. enter e s) h.means ∙ sym (after-push (opening header) now.before s);
   is_header = h.is_header;
-  header_fine = h.header_fine;
-  fine = AreFine-push header [] now.before s h.fine fine;
+  header_admissible = h.header_admissible;
+  admissible = AreAdmissible-push header [] now.before s h.admissible admissible;
   bound = ap (λ l. l ++ bound_target now.environment s ∷ []) h.bound ∙ ap (λ e. bound_targets (opening header) now.before ++ bound_target e s ∷ []) h.means ∙ sym (bound_targets-push (opening header) now.before s);
 }
 
@@ -140,10 +140,10 @@ FallInto-push tokens from [] s to next h is = let P : ℕ → Type 0 = λ n. IsS
 FallInto-push tokens from (x ∷ ss) s to next h is = (h.0, h.1, FallInto-push tokens h.0 ss s to next h.2 is)
 
 -- one statement of the header more
-pub IsReadHeader-push : (tokens : List Lexeme) (place next : ℕ) (now : Situation) (s : Stmt) → IsReadHeader tokens place now → IsStatement tokens place s next → IsFineInHeader now.before s → IsReadHeader tokens next (behind now s)
-IsReadHeader-push tokens place next now s h is fine = record {
+pub IsReadHeader-push : (tokens : List Lexeme) (place next : ℕ) (now : Context) (s : Stmt) → IsReadHeader tokens place now → IsStatement tokens place s next → IsAdmissibleInHeader now.before s → IsReadHeader tokens next (behind now s)
+IsReadHeader-push tokens place next now s h is admissible = record {
   statements = FallInto-push tokens 0 now.before s place next h.statements is;
-  fine = AreFineInHeader-push [] now.before s h.fine fine;
+  admissible = AreAdmissibleInHeader-push [] now.before s h.admissible admissible;
   means = ap (λ e. enter e s) h.means ∙ sym (after-push nothing now.before s);
 }
 

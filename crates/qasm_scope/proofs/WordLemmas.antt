@@ -38,9 +38,6 @@ name_contained names word w =
     let reads : get_or (words_of names) w.0 word ≡ (get_or names w.0 w.1).word = get_or-map (λ (n : Named). n.word) names w.0 w.1 word w.2 in
     (w.0, subst (λ n. w.0 < n) (sym (length-map names (λ (n : Named). n.word))) w.2, reads ∙ ap (λ (n : Named). n.word) w.3 ∙ w.4)
 
-pub same_word : {b : Bool} {read word other : List ℕ} → read ≡ word → (IsTrue b ↔ (read ≡ other)) → (IsTrue b ↔ (word ≡ other))
-same_word {b} {read} {word} {other} same h = subst (λ (w : List ℕ). IsTrue b ↔ (w ≡ other)) same h
-
 -- a word isn't among these names
 pub unknown_word : (names : List Named) {b : Bool} {word read : List ℕ} → read ≡ word → (IsTrue b ↔ Contains (words_of names) read) → (IsTrue (not b) ↔ ¬ Contains (words_of names) word)
 unknown_word names {b} same h = not_tested (subst (λ w. IsTrue b ↔ Contains (words_of names) w) same h)

@@ -12,7 +12,7 @@ use Rattle.qasm_scope.specs.Header.{IsHeader}
 use Rattle.qasm_scope.specs.Refusals.{Refuses}
 use Rattle.qasm_parse.specs.Symbols.{Lexeme}
 use Rattle.qasm_parse.specs.Statements.{FallInto}
-use Rattle.qasm_scope.specs.Accepted.{AreFine, Situation}
+use Rattle.qasm_scope.specs.Accepted.{AreAdmissible, Context}
 
 -- the version, or a gate with a body
 abbrev pub IsVersionOrGate : Stmt → Type 0
@@ -21,14 +21,14 @@ IsVersionOrGate (stmt.Gate name params args body at) = Unit {0}
 IsVersionOrGate other = ⊥
 
 -- it may stand in the header behind these statements: no refusal, and the version or a gate with a body
-pub record IsFineInHeader (before : List Stmt) (s : Stmt) : Type 0 where
-  pub fine : (k : ScopeKind) (at : ℕ) → ¬ Refuses (after nothing before) before s k at
+pub record IsAdmissibleInHeader (before : List Stmt) (s : Stmt) : Type 0 where
+  pub admissible : (k : ScopeKind) (at : ℕ) → ¬ Refuses (after nothing before) before s k at
   pub form : IsVersionOrGate s
 
 -- each may stand in the header behind those before it
-abbrev pub AreFineInHeader : List Stmt → List Stmt → Type 0
-AreFineInHeader before [] = Unit {0}
-AreFineInHeader before (s ∷ ss) = IsFineInHeader before s × AreFineInHeader (before ++ s ∷ []) ss
+abbrev pub AreAdmissibleInHeader : List Stmt → List Stmt → Type 0
+AreAdmissibleInHeader before [] = Unit {0}
+AreAdmissibleInHeader before (s ∷ ss) = IsAdmissibleInHeader before s × AreAdmissibleInHeader (before ++ s ∷ []) ss
 
 -- what a file begins with, behind the header's own statements
 abbrev pub opened : Environment → Environment
@@ -45,15 +45,15 @@ bound_targets e [] = []
 bound_targets e (s ∷ ss) = bound_target e s ∷ bound_targets (enter e s) ss
 
 -- behind the header and statements of a file: what names stand for, and that no statement is refused
-pub record IsScope (header : List Stmt) (now : Situation) (targets : List Target) : Type 0 where
+pub record IsScope (header : List Stmt) (now : Context) (targets : List Target) : Type 0 where
   pub means : now.environment ≡ environment header now.before
   pub is_header : IsHeader header
-  pub header_fine : AreFineInHeader [] header
-  pub fine : AreFine header [] now.before
+  pub header_admissible : AreAdmissibleInHeader [] header
+  pub admissible : AreAdmissible header [] now.before
   pub bound : targets ≡ bound_targets (opening header) now.before
 
 -- the tokens up to a place are the statements of the header, each entered behind those before it
-pub record IsReadHeader (tokens : List Lexeme) (place : ℕ) (now : Situation) : Type 0 where
+pub record IsReadHeader (tokens : List Lexeme) (place : ℕ) (now : Context) : Type 0 where
   pub statements : FallInto tokens 0 now.before place
-  pub fine : AreFineInHeader [] now.before
+  pub admissible : AreAdmissibleInHeader [] now.before
   pub means : now.environment ≡ after nothing now.before

@@ -6,28 +6,29 @@ ghost use Rattle.qasm_scope.specs.Applications.{applications};
 ghost use Rattle.qasm_scope.specs.Judged.{TouchesReadBy};
 ghost use Rattle.qasm_scope.specs.Refusals.{RepeatsQubit, TouchesRead};
 
+use crate::known::Known;
 use crate::names::Names;
-use crate::pairs::{PairFault, has_pair};
+use crate::pairs::{PairFault, has_faulty_pair};
 use qasm_parse::Arg;
 
 /// How often a call on these arguments is applied.
-fn applications(names: &Names, args: &[Arg]) -> u64
-    ensures { result ≡ applications names.now.environment args.now }
+fn applications(known: &Known, args: &[Arg]) -> u64
+    ensures { result ≡ applications known.now args.now }
 {
     for arg in args {
         if arg.index.is_none() {
-            return names.qubit_size(arg.word.as_slice()).unwrap_or(0);
+            return known.qubit_size(arg.word.as_slice()).unwrap_or(0);
         }
     }
     1
 }
 
 /// Whether an application of the call has a qubit twice.
-pub(crate) fn repeats_qubit(names: &Names, args: &[Arg]) -> bool
-    ensures { IsTrue result ↔ RepeatsQubit names.now.environment args.now }
+pub(crate) fn repeats_qubit(known: &Known, args: &[Arg]) -> bool
+    ensures { IsTrue result ↔ RepeatsQubit known.now args.now }
 {
-    let times = applications(names, args);
-    has_pair(names, PairFault::Repeated { times }, args)
+    let times = applications(known, args);
+    has_faulty_pair(known, PairFault::Repeated { times }, args)
 }
 
 /// Whether one of so many applications is on a qubit that was read, by this argument.
@@ -52,5 +53,5 @@ fn touches_read_within(names: &Names, times: u64, args: &[Arg]) -> bool
 pub(crate) fn touches_read(names: &Names, args: &[Arg]) -> bool
     ensures { IsTrue result ↔ TouchesRead names.now.environment names.now.before args.now }
 {
-    touches_read_within(names, applications(names, args), args)
+    touches_read_within(names, applications(names.known(), args), args)
 }

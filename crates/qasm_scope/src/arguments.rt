@@ -4,8 +4,8 @@ ghost use Rattle.std.specs.Prelude.{◌≡◌, ◌↔◌, IsTrue};
 ghost use Rattle.qasm_scope.specs.Judged.{HasArgFault, HasArgFaultAt, size_of};
 ghost use Rattle.qasm_scope.specs.Least.{IsLeastOffset};
 
+use crate::known::Known;
 use crate::least::earlier;
-use crate::names::Names;
 use qasm_parse::Arg;
 
 /// A kind of registers.
@@ -27,20 +27,20 @@ pub(crate) enum ArgFault {
 }
 
 /// The size of the register of this kind and name.
-fn size_of(names: &Names, register: Register, name: &[u8]) -> Option<u64>
-    ensures { result ≡ size_of names.now.environment register name.now }
+fn size_of(known: &Known, register: Register, name: &[u8]) -> Option<u64>
+    ensures { result ≡ size_of known.now register name.now }
 {
     match register {
-        Register::Qubits => names.qubit_size(name),
-        Register::Bits => names.bit_size(name),
+        Register::Qubits => known.qubit_size(name),
+        Register::Bits => known.bit_size(name),
     }
 }
 
 /// Whether this is wrong with the argument.
-fn arg_has(names: &Names, register: Register, fault: ArgFault, arg: &Arg) -> bool
-    ensures { IsTrue result ↔ HasArgFault names.now.environment register fault arg.now }
+fn has_arg_fault(known: &Known, register: Register, fault: ArgFault, arg: &Arg) -> bool
+    ensures { IsTrue result ↔ HasArgFault known.now register fault arg.now }
 {
-    let size = size_of(names, register, arg.word.as_slice());
+    let size = size_of(known, register, arg.word.as_slice());
     match fault {
         ArgFault::NotDeclared => size.is_none(),
         ArgFault::Index => match (size, arg.index) {
@@ -52,16 +52,16 @@ fn arg_has(names: &Names, register: Register, fault: ArgFault, arg: &Arg) -> boo
 
 /// The least offset of an argument with which this is wrong.
 pub(crate) fn least_arg(
-    names: &Names,
+    known: &Known,
     register: Register,
     fault: ArgFault,
     args: &[Arg],
 ) -> Option<u32>
-    ensures { IsLeastOffset (HasArgFaultAt names.now.environment register fault args.now) result }
+    ensures { IsLeastOffset (HasArgFaultAt known.now register fault args.now) result }
 {
     let mut least = None;
     for arg in args {
-        let refused = arg_has(names, register, fault, arg);
+        let refused = has_arg_fault(known, register, fault, arg);
         least = earlier(least, refused.then_some(arg.at));
     }
     least

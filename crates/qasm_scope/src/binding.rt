@@ -1,7 +1,7 @@
 //! What the calls of a gate's body are bound to.
 
-ghost use Rattle.std.specs.Prelude.{◌≡◌, ◌<◌, ◌^◌, List, ℕ, length, map, IfOk};
-ghost use Rattle.qasm_scope.specs.Environment.{bound_call, bound_gate, words_of};
+ghost use Rattle.std.specs.Prelude.{◌≡◌, ◌<◌, ◌^◌, List, length, map, IfOk};
+ghost use Rattle.qasm_scope.specs.Environment.{bound_call, bound_gate};
 ghost use Rattle.qasm_scope.specs.Names.{target_of, value_or};
 ghost use Rattle.qasm_scope.specs.declared.gate.Target.TheVariants as target;
 

@@ -1,6 +1,6 @@
 //! What is wrong with the names of a declaration and of the expressions in it.
 
-ghost use Rattle.std.specs.Prelude.{◌≡◌, ◌↔◌, IsTrue, ◌++◌};
+ghost use Rattle.std.specs.Prelude.{◌↔◌, IsTrue, ◌++◌};
 ghost use Rattle.std.specs.List.{Any, Contains};
 ghost use Rattle.qasm_scope.specs.Environment.{words_of};
 ghost use Rattle.qasm_scope.specs.Judged.{ComesAgain, IsForeignAt};
@@ -15,23 +15,11 @@ ghost use Rattle.qasm_scope.specs.Refusals.{
 use crate::least::earlier;
 use qasm_parse::{Arg, BodyOp, Expr, Named, Node};
 
-/// Whether the bytes are the same.
-fn same_bytes(a: &[u8], b: &[u8]) -> bool
-    ensures { IsTrue result ↔ (a.now ≡ b.now) }
-{
-    a == b
-}
-
 /// Whether the word is one of these names.
 fn has_word(names: &[Named], word: &[u8]) -> bool
     ensures { IsTrue result ↔ Contains (words_of names.now) word.now }
 {
-    for name in names {
-        if same_bytes(name.word.as_slice(), word) {
-            return true;
-        }
-    }
-    false
+    names.iter().any(|name| name.word.as_slice() == word)
 }
 
 /// Whether the word is one of the names of either list.

@@ -1,14 +1,14 @@
 //! What is wrong with calls, at the top and in bodies, one by one.
 
-ghost use Rattle.std.specs.Prelude.{◌≡◌, ◌↔◌, IsTrue};
+ghost use Rattle.std.specs.Prelude.{◌↔◌, IsTrue};
 ghost use Rattle.qasm_scope.specs.Judged.{HasCallFault, HasCallFaultAt};
 ghost use Rattle.qasm_scope.specs.Least.{IsLeastOffset};
 ghost use Rattle.qasm_scope.specs.Refusals.{HasOtherArity, HasOtherParams, RepeatsWord};
 
+use crate::known::Known;
 use crate::least::earlier;
 use crate::meaning::Callee;
-use crate::names::Names;
-use crate::pairs::{PairFault, has_pair};
+use crate::pairs::{PairFault, has_faulty_pair};
 use qasm_parse::BodyOp;
 
 /// What is wrong with a call.
@@ -47,34 +47,34 @@ fn has_other_arity(callee: Callee, call: &BodyOp) -> bool
 }
 
 /// Whether a call in a body has an argument twice; a barrier may.
-fn repeats_word(names: &Names, call: &BodyOp) -> bool
+fn repeats_word(known: &Known, call: &BodyOp) -> bool
     ensures { IsTrue result ↔ RepeatsWord call.now }
 {
     call.name.as_slice() != b"barrier".as_slice()
-        && has_pair(names, PairFault::Words, call.args.as_slice())
+        && has_faulty_pair(known, PairFault::Words, call.args.as_slice())
 }
 
 /// Whether this is wrong with the call.
-fn call_has(names: &Names, fault: CallFault, call: &BodyOp) -> bool
-    ensures { IsTrue result ↔ HasCallFault names.now.environment fault call.now }
+fn has_call_fault(known: &Known, fault: CallFault, call: &BodyOp) -> bool
+    ensures { IsTrue result ↔ HasCallFault known.now fault call.now }
 {
-    let callee = names.callee(call.name.as_slice());
+    let callee = known.callee(call.name.as_slice());
     match fault {
         CallFault::Unknown => matches!(callee, Callee::Unknown),
         CallFault::Opaque => matches!(callee, Callee::Opaque),
         CallFault::Params => has_other_params(callee, call),
         CallFault::Arity => has_other_arity(callee, call),
-        CallFault::Repeated => repeats_word(names, call),
+        CallFault::Repeated => repeats_word(known, call),
     }
 }
 
 /// The least offset of a call with which this is wrong.
-pub(crate) fn least_call(names: &Names, fault: CallFault, calls: &[BodyOp]) -> Option<u32>
-    ensures { IsLeastOffset (HasCallFaultAt names.now.environment fault calls.now) result }
+pub(crate) fn least_call(known: &Known, fault: CallFault, calls: &[BodyOp]) -> Option<u32>
+    ensures { IsLeastOffset (HasCallFaultAt known.now fault calls.now) result }
 {
     let mut least = None;
     for call in calls {
-        let refused = call_has(names, fault, call);
+        let refused = has_call_fault(known, fault, call);
         least = earlier(least, refused.then_some(call.at));
     }
     least

@@ -6,7 +6,7 @@ ghost use Rattle.qasm_parse.specs.Statements.{IsStatement};
 ghost use Rattle.qasm_parse.specs.Symbols.{lexemes_of};
 ghost use Rattle.qasm_scope.specs.Accepted.{behind};
 ghost use Rattle.qasm_scope.specs.Header.{IsHeader, header_text};
-ghost use Rattle.qasm_scope.specs.Scopes.{AreFineInHeader, IsFineInHeader, IsVersionOrGate, IsReadHeader};
+ghost use Rattle.qasm_scope.specs.Scopes.{AreAdmissibleInHeader, IsAdmissibleInHeader, IsVersionOrGate, IsReadHeader};
 ghost use Rattle.qasm_scope.specs.Environment.{after, nothing, opening};
 
 use crate::names::Names;
@@ -67,9 +67,9 @@ fn is_version_or_gate(stmt: &Stmt) -> bool
 
 /// Enters a statement of the header. The header's own statements are never refused: where a type leaves that open, the
 /// answer is want of memory.
-fn take_in(names: &mut Names, stmt: Stmt) -> Result<(), Memory>
+fn enter_judged(names: &mut Names, stmt: Stmt) -> Result<(), Memory>
     ensures entered { OnOk result (names.new ≡ behind names.old stmt) }
-    ensures fine { OnOk result (names.old.environment ≡ after nothing names.old.before → IsFineInHeader names.old.before stmt) }
+    ensures admissible { OnOk result (names.old.environment ≡ after nothing names.old.before → IsAdmissibleInHeader names.old.before stmt) }
 {
     if !is_version_or_gate(&stmt) || names.judge(&stmt).is_some() {
         return Err(Memory);
@@ -103,16 +103,16 @@ fn read_statements(alloc: Global, source: &[u8], tokens: &Tokens) -> Result<Name
     let mut place: u32 = 0;
     while (place as usize) < tokens.all().len() {
         let (stmt, next) = statement_of(alloc, source, tokens, place)?;
-        take_in(&mut names, stmt)?;
+        enter_judged(&mut names, stmt)?;
         place = next;
     }
     Ok(names)
 }
 
-/// The header's statements, and the situation in which a file begins.
+/// The header's statements, and the context in which a file begins.
 pub(crate) fn read_header(alloc: Global) -> Result<(List<Stmt>, Names), Memory>
     ensures is_header { IfOk result (λ r. IsHeader r.0) }
-    ensures fine { IfOk result (λ r. AreFineInHeader [] r.0) }
+    ensures admissible { IfOk result (λ r. AreAdmissibleInHeader [] r.0) }
     ensures opening { IfOk result (λ r. r.1 ≡ record { environment = opening r.0; before = [] }) }
 {
     let source = header_text();
@@ -120,7 +120,7 @@ pub(crate) fn read_header(alloc: Global) -> Result<(List<Stmt>, Names), Memory>
         return Err(Memory);
     };
     let names = read_statements(alloc, source, &tokens)?;
-    if names.has_own(b"cz".as_slice()) {
+    if names.known().has_own(b"cz".as_slice()) {
         return Err(Memory);
     }
     names.opened()

@@ -48,20 +48,21 @@ impl Names {
             (Refuses self.now.environment self.now.before stmt.now kind)
             result }
     {
+        let known = self.known();
         match kind {
             ScopeKind::Version => version_at(stmt),
             ScopeKind::Control => control_at(stmt),
             ScopeKind::Reset => reset_at(stmt),
             ScopeKind::Include => include_at(stmt),
-            ScopeKind::Redeclared => redeclared_at(self, stmt),
-            ScopeKind::NotDeclared => argument_at(self, ArgFault::NotDeclared, stmt),
-            ScopeKind::UnknownGate => call_at(self, CallFault::Unknown, stmt),
-            ScopeKind::Opaque => call_at(self, CallFault::Opaque, stmt),
-            ScopeKind::Params => call_at(self, CallFault::Params, stmt),
-            ScopeKind::Arity => call_at(self, CallFault::Arity, stmt),
-            ScopeKind::Sizes => sizes_at(self, stmt),
-            ScopeKind::Index => argument_at(self, ArgFault::Index, stmt),
-            ScopeKind::Repeated => repeated_at(self, stmt),
+            ScopeKind::Redeclared => redeclared_at(known, stmt),
+            ScopeKind::NotDeclared => argument_at(known, ArgFault::NotDeclared, stmt),
+            ScopeKind::UnknownGate => call_at(known, CallFault::Unknown, stmt),
+            ScopeKind::Opaque => call_at(known, CallFault::Opaque, stmt),
+            ScopeKind::Params => call_at(known, CallFault::Params, stmt),
+            ScopeKind::Arity => call_at(known, CallFault::Arity, stmt),
+            ScopeKind::Sizes => sizes_at(known, stmt),
+            ScopeKind::Index => argument_at(known, ArgFault::Index, stmt),
+            ScopeKind::Repeated => repeated_at(known, stmt),
             ScopeKind::Name => name_at(stmt),
             ScopeKind::AfterRead => after_read_at(self, stmt),
         }

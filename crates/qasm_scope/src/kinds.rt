@@ -1,6 +1,6 @@
 //! Of each kind the least offset of a statement's refusal.
 
-ghost use Rattle.std.specs.Prelude.{◌≡◌, ◌⊎◌, ◌↔◌, IsTrue};
+ghost use Rattle.std.specs.Prelude.{◌⊎◌, ◌↔◌, IsTrue};
 ghost use Rattle.qasm_scope.specs.Judged.{HasArgFaultAt, HasCallFaultAt};
 ghost use Rattle.qasm_scope.specs.Least.{IsLeastOffset};
 ghost use Rattle.qasm_scope.specs.Refusals.{
@@ -23,9 +23,10 @@ use crate::applied::{repeats_qubit, touches_read};
 use crate::arguments::{ArgFault, Register, least_arg};
 use crate::bodies::{least_other_in, least_twice, least_undeclared};
 use crate::calls::{CallFault, least_call};
+use crate::known::Known;
 use crate::least::earlier;
 use crate::names::Names;
-use crate::pairs::{PairFault, has_pair};
+use crate::pairs::{PairFault, has_faulty_pair};
 use crate::parts::{bit_args, calls_in, qubit_args};
 use qasm_parse::{Arg, Stmt};
 use std::slice;
@@ -73,51 +74,51 @@ pub(crate) fn include_at(stmt: &Stmt) -> Option<u32>
 }
 
 /// The offset of a name that is declared again, or of a header that comes too late.
-pub(crate) fn redeclared_at(names: &Names, stmt: &Stmt) -> Option<u32>
-    ensures { IsLeastOffset (IsRedeclared names.now.environment stmt.now) result }
+pub(crate) fn redeclared_at(known: &Known, stmt: &Stmt) -> Option<u32>
+    ensures { IsLeastOffset (IsRedeclared known.now stmt.now) result }
 {
     match stmt {
-        Stmt::Qreg { name, at, .. } => names.is_declared(name.as_slice()).then_some(*at),
-        Stmt::Creg { name, at, .. } => names.is_declared(name.as_slice()).then_some(*at),
-        Stmt::Gate { name, at, .. } => names.is_declared(name.as_slice()).then_some(*at),
-        Stmt::Opaque { name, at, .. } => names.is_declared(name.as_slice()).then_some(*at),
-        Stmt::Include { at, .. } => names.clashes_with_header().then_some(*at),
+        Stmt::Qreg { name, at, .. } => known.is_declared(name.as_slice()).then_some(*at),
+        Stmt::Creg { name, at, .. } => known.is_declared(name.as_slice()).then_some(*at),
+        Stmt::Gate { name, at, .. } => known.is_declared(name.as_slice()).then_some(*at),
+        Stmt::Opaque { name, at, .. } => known.is_declared(name.as_slice()).then_some(*at),
+        Stmt::Include { at, .. } => known.clashes_with_header().then_some(*at),
         _ => None,
     }
 }
 
 /// The least offset of an argument with which this is wrong.
-pub(crate) fn argument_at(names: &Names, fault: ArgFault, stmt: &Stmt) -> Option<u32>
+pub(crate) fn argument_at(known: &Known, fault: ArgFault, stmt: &Stmt) -> Option<u32>
     ensures { IsLeastOffset
         (λ at.
-        HasArgFaultAt names.now.environment Register.Qubits fault (qubit_args stmt.now) at
-        ⊎ HasArgFaultAt names.now.environment Register.Bits fault (bit_args stmt.now) at)
+        HasArgFaultAt known.now Register.Qubits fault (qubit_args stmt.now) at
+        ⊎ HasArgFaultAt known.now Register.Bits fault (bit_args stmt.now) at)
         result }
 {
     earlier(
-        least_arg(names, Register::Qubits, fault, qubit_args(stmt)),
-        least_arg(names, Register::Bits, fault, bit_args(stmt)),
+        least_arg(known, Register::Qubits, fault, qubit_args(stmt)),
+        least_arg(known, Register::Bits, fault, bit_args(stmt)),
     )
 }
 
 /// The least offset of a call with which this is wrong.
-pub(crate) fn call_at(names: &Names, fault: CallFault, stmt: &Stmt) -> Option<u32>
+pub(crate) fn call_at(known: &Known, fault: CallFault, stmt: &Stmt) -> Option<u32>
     ensures { IsLeastOffset
-        (HasCallFaultAt names.now.environment fault (calls_in stmt.now))
+        (HasCallFaultAt known.now fault (calls_in stmt.now))
         result }
 {
-    least_call(names, fault, calls_in(stmt))
+    least_call(known, fault, calls_in(stmt))
 }
 
 /// Whether a measurement is from a register into one bit or the other way round, or between registers of different
 /// size.
-fn reads_unevenly(names: &Names, from: &Arg, into: &Arg) -> bool
+fn reads_unevenly(known: &Known, from: &Arg, into: &Arg) -> bool
     ensures { IsTrue result
-        ↔ ReadsUnevenly names.now.environment from.now into.now from.now.index into.now.index }
+        ↔ ReadsUnevenly known.now from.now into.now from.now.index into.now.index }
 {
     match (from.index, into.index) {
         (None, None) => {
-            names.qubit_size(from.word.as_slice()) != names.bit_size(into.word.as_slice())
+            known.qubit_size(from.word.as_slice()) != known.bit_size(into.word.as_slice())
         }
         (Some(_), None) => true,
         (None, Some(_)) => true,
@@ -126,25 +127,25 @@ fn reads_unevenly(names: &Names, from: &Arg, into: &Arg) -> bool
 }
 
 /// The offset of a call or a measurement of uneven sizes.
-pub(crate) fn sizes_at(names: &Names, stmt: &Stmt) -> Option<u32>
-    ensures { IsLeastOffset (HasUnevenSizes names.now.environment stmt.now) result }
+pub(crate) fn sizes_at(known: &Known, stmt: &Stmt) -> Option<u32>
+    ensures { IsLeastOffset (HasUnevenSizes known.now stmt.now) result }
 {
     match stmt {
         Stmt::Call { call } => {
-            has_pair(names, PairFault::Sizes, call.args.as_slice()).then_some(call.at)
+            has_faulty_pair(known, PairFault::Sizes, call.args.as_slice()).then_some(call.at)
         }
-        Stmt::Measure { from, into, at } => reads_unevenly(names, from, into).then_some(*at),
+        Stmt::Measure { from, into, at } => reads_unevenly(known, from, into).then_some(*at),
         _ => None,
     }
 }
 
 /// The least offset of a call that repeats a qubit or, in a body, an argument.
-pub(crate) fn repeated_at(names: &Names, stmt: &Stmt) -> Option<u32>
-    ensures { IsLeastOffset (HasRepeated names.now.environment stmt.now) result }
+pub(crate) fn repeated_at(known: &Known, stmt: &Stmt) -> Option<u32>
+    ensures { IsLeastOffset (HasRepeated known.now stmt.now) result }
 {
     match stmt {
-        Stmt::Call { call } => repeats_qubit(names, call.args.as_slice()).then_some(call.at),
-        Stmt::Gate { body, .. } => least_call(names, CallFault::Repeated, body.as_slice()),
+        Stmt::Call { call } => repeats_qubit(known, call.args.as_slice()).then_some(call.at),
+        Stmt::Gate { body, .. } => least_call(known, CallFault::Repeated, body.as_slice()),
         _ => None,
     }
 }

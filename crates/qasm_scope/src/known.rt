@@ -15,7 +15,7 @@ use std::marker::Model;
 use zac_gates::Memory;
 
 /// The names of the header that a file can't declare beside it.
-pub const FIXED_NAMES: [&[u8]; 23] = [
+const FIXED_NAMES: [&[u8]; 23] = [
     b"u3", b"u2", b"u1", b"cx", b"id", b"x", b"y", b"z", b"h", b"s", b"sdg", b"t", b"tdg", b"rx",
     b"ry", b"rz", b"cy", b"ch", b"ccx", b"crz", b"cu1", b"cu3", b"cz",
 ];

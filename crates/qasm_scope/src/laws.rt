@@ -2,10 +2,10 @@
 
 ghost use Rattle.std.specs.Prelude.{◌≡◌, ◌++◌, [], ℕ, List};
 ghost use Rattle.qasm_parse.specs.declared.stmt.Stmt.{Stmt};
-ghost use Rattle.qasm_scope.specs.Accepted.{AreFine};
+ghost use Rattle.qasm_scope.specs.Accepted.{AreAdmissible};
 ghost use Rattle.qasm_scope.specs.Bound.{IsWellBound};
 ghost use Rattle.qasm_scope.specs.Environment.{environment};
-ghost use Rattle.qasm_scope.specs.Scopes.{AreFineInHeader};
+ghost use Rattle.qasm_scope.specs.Scopes.{AreAdmissibleInHeader};
 ghost use Rattle.qasm_scope.specs.declared.gate.GateDef.{GateDef};
 
 /// The gates behind some statements stand in front of those behind more.
@@ -16,6 +16,6 @@ pub fn gates_only_grow()
 
 /// Where no statement is refused, each call of a gate's body is well bound.
 pub fn gates_are_well_bound()
-    ensures { (header statements : List Stmt) → AreFineInHeader [] header → AreFine header [] statements
+    ensures { (header statements : List Stmt) → AreAdmissibleInHeader [] header → AreAdmissible header [] statements
         → (place : ℕ) → IsWellBound (environment header statements).gates place }
 {}

@@ -26,7 +26,7 @@ pub enum Callee {
     Opaque,
     /// A barrier, which takes any number of arguments and no angles.
     Barrier,
-    /// A gate, with the numbers of its angles and arguments.
+    /// A gate: what a call of it is bound to, with the numbers of its angles and arguments.
     Gate {
         target: Target,
         params: u32,

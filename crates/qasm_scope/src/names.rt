@@ -4,9 +4,7 @@ ghost use Rattle.std.specs.Prelude.{◌≡◌, OnOk, OnErr};
 ghost use Rattle.qasm_scope.specs.Reads.{IsMeasurement, with_reads_of};
 ghost use Rattle.qasm_scope.specs.Registers.{reads_of};
 
-use crate::gate::GateDef;
 use crate::known::Known;
-use crate::meaning::Callee;
 use crate::reads::Reads;
 use qasm_parse::Stmt;
 use std::alloc::Global;
@@ -24,9 +22,9 @@ pub(crate) struct Names {
 }
 
 impl Model for Names {
-    ghost use Rattle.qasm_scope.specs.Accepted.{Situation};
+    ghost use Rattle.qasm_scope.specs.Accepted.{Context};
 
-    ghost Value = { Situation };
+    ghost Value = { Context };
 
     ghost use Rattle.qasm_scope.specs.Reads.{AreReadsOf};
     ghost use Rattle.qasm_scope.specs.Registers.{reads_of};
@@ -49,13 +47,12 @@ fn note_read(reads: &mut Reads, stmt: &Stmt) -> Result<(), Memory>
 }
 
 impl Names {
-    ghost use Rattle.std.specs.Prelude.{◌≡◌, ℕ, ◌<◌, ◌↔◌, [], None, codes, is_some, IsTrue, IfOk, OnOk, OnErr};
+    ghost use Rattle.std.specs.Prelude.{◌≡◌, ℕ, ◌<◌, ◌↔◌, [], None, codes, IsTrue, IfOk, OnOk, OnErr};
     ghost use Rattle.qasm_scope.specs.Accepted.{behind};
     ghost use Rattle.qasm_scope.specs.Applications.{IsRead};
     ghost use Rattle.qasm_scope.specs.Entering.{DeclaresNew};
     ghost use Rattle.qasm_scope.specs.Environment.{nothing};
-    ghost use Rattle.qasm_scope.specs.Names.{callee, own_meaning, qubit_size, bit_size};
-    ghost use Rattle.qasm_scope.specs.Refusals.{IsDeclared, ClashesWithHeader};
+    ghost use Rattle.qasm_scope.specs.Names.{own_meaning};
     ghost use Rattle.qasm_scope.specs.Scopes.{opened};
 
     /// No statements, and no names.
@@ -86,7 +83,7 @@ impl Names {
         Ok(())
     }
 
-    /// The statements, and the situation in which a file begins behind them, where they are the header's. `cz` isn't
+    /// The statements, and the context in which a file begins behind them, where they are the header's. `cz` isn't
     /// among the names.
     pub(crate) fn opened(self) -> Result<(List<Stmt>, Names), Memory>
         requires { own_meaning self.environment (codes "cz") ≡ None }
@@ -108,18 +105,11 @@ impl Names {
         Ok((List::of(statements), names))
     }
 
-    /// Whether the file has declared the name.
-    pub(crate) fn has_own(&self, name: &[u8]) -> bool
-        ensures { result ≡ is_some (own_meaning self.now.environment name.now) }
+    /// What names stand for behind the statements.
+    pub(crate) fn known(&self) -> &Known
+        ensures { result.now ≡ self.now.environment }
     {
-        self.known.has_own(name)
-    }
-
-    /// The gates with a body.
-    pub(crate) fn gates(&self) -> &[GateDef]
-        ensures { result.now ≡ self.now.environment.gates }
-    {
-        self.known.gates()
+        &self.known
     }
 
     /// The statements.
@@ -129,54 +119,19 @@ impl Names {
         self.statements.as_slice()
     }
 
-    /// What a call's name stands for.
-    pub(crate) fn callee(&self, name: &[u8]) -> Callee
-        ensures { result ≡ callee self.now.environment name.now }
-    {
-        self.known.callee(name)
-    }
-
-    /// The size of a register of qubits.
-    pub(crate) fn qubit_size(&self, name: &[u8]) -> Option<u64>
-        ensures { result ≡ qubit_size self.now.environment name.now }
-    {
-        self.known.qubit_size(name)
-    }
-
-    /// The size of a register of bits.
-    pub(crate) fn bit_size(&self, name: &[u8]) -> Option<u64>
-        ensures { result ≡ bit_size self.now.environment name.now }
-    {
-        self.known.bit_size(name)
-    }
-
-    /// Whether a name is declared: by the file, or as a fixed name of a header that is included.
-    pub(crate) fn is_declared(&self, name: &[u8]) -> bool
-        ensures { IsTrue result ↔ IsDeclared self.now.environment name.now }
-    {
-        self.known.is_declared(name)
-    }
-
-    /// Whether the file has declared a fixed name of the header, which isn't included yet.
-    pub(crate) fn clashes_with_header(&self) -> bool
-        ensures { IsTrue result ↔ ClashesWithHeader self.now.environment }
-    {
-        self.known.clashes_with_header()
-    }
-
     /// Whether a place was read.
     pub(crate) fn is_read(&self, name: &[u8], index: u64) -> bool
         ensures { IsTrue result ↔ IsRead self.now.environment self.now.before (name.now, index) }
     {
         self.reads.is_single(name, index)
-            || (self.reads.is_whole(name) && index < self.qubit_size(name).unwrap_or(0))
+            || (self.reads.is_whole(name) && index < self.known.qubit_size(name).unwrap_or(0))
     }
 
     /// Whether a place of a register below a bound was read.
     pub(crate) fn has_read_below(&self, name: &[u8], bound: u64) -> bool
         ensures { IsTrue result ↔ ((k : ℕ) × (k < bound) × IsRead self.now.environment self.now.before (name.now, k)) }
     {
-        let places = bound.min(self.qubit_size(name).unwrap_or(0));
+        let places = bound.min(self.known.qubit_size(name).unwrap_or(0));
         self.reads.has_single_below(name, bound) || (self.reads.is_whole(name) && places > 0)
     }
 }

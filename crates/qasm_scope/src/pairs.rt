@@ -1,11 +1,11 @@
 //! What is wrong with two arguments of one call.
 
-ghost use Rattle.std.specs.Prelude.{◌≡◌, ◌↔◌, IsTrue};
+ghost use Rattle.std.specs.Prelude.{◌↔◌, IsTrue};
 ghost use Rattle.std.specs.List.{Any};
 ghost use Rattle.qasm_scope.specs.Judged.{HasPairFault, IndicesMeet, MeetWithin};
 ghost use Rattle.qasm_scope.specs.Refusals.{DifferInSize, SomeTwo};
 
-use crate::names::Names;
+use crate::known::Known;
 use qasm_parse::Arg;
 
 /// What is wrong with two arguments of a call.
@@ -20,12 +20,12 @@ pub(crate) enum PairFault {
 }
 
 /// Whether the arguments are whole registers of different size.
-fn differ_in_size(names: &Names, a: &Arg, b: &Arg) -> bool
-    ensures { IsTrue result ↔ DifferInSize names.now.environment a.now b.now }
+fn differ_in_size(known: &Known, a: &Arg, b: &Arg) -> bool
+    ensures { IsTrue result ↔ DifferInSize known.now a.now b.now }
 {
     a.index.is_none()
         && b.index.is_none()
-        && names.qubit_size(a.word.as_slice()) != names.qubit_size(b.word.as_slice())
+        && known.qubit_size(a.word.as_slice()) != known.qubit_size(b.word.as_slice())
 }
 
 /// Whether one of so many applications is on one place by both indices.
@@ -48,22 +48,22 @@ fn may_meet(times: u64, a: &Arg, b: &Arg) -> bool
 }
 
 /// Whether this is wrong with the two arguments.
-fn pair_has(names: &Names, fault: PairFault, a: &Arg, b: &Arg) -> bool
-    ensures { IsTrue result ↔ HasPairFault names.now.environment fault a.now b.now }
+fn has_pair_fault(known: &Known, fault: PairFault, a: &Arg, b: &Arg) -> bool
+    ensures { IsTrue result ↔ HasPairFault known.now fault a.now b.now }
 {
     match fault {
-        PairFault::Sizes => differ_in_size(names, a, b),
+        PairFault::Sizes => differ_in_size(known, a, b),
         PairFault::Repeated { times } => may_meet(times, a, b),
         PairFault::Words => a.word.as_slice() == b.word.as_slice(),
     }
 }
 
 /// Whether this is wrong with the argument and a later one.
-fn pairs_with(names: &Names, fault: PairFault, a: &Arg, later: &[Arg]) -> bool
-    ensures { IsTrue result ↔ Any (HasPairFault names.now.environment fault a.now) later.now }
+fn has_fault_with_later(known: &Known, fault: PairFault, a: &Arg, later: &[Arg]) -> bool
+    ensures { IsTrue result ↔ Any (HasPairFault known.now fault a.now) later.now }
 {
     for b in later {
-        if pair_has(names, fault, a, b) {
+        if has_pair_fault(known, fault, a, b) {
             return true;
         }
     }
@@ -71,11 +71,11 @@ fn pairs_with(names: &Names, fault: PairFault, a: &Arg, later: &[Arg]) -> bool
 }
 
 /// Whether this is wrong with two of the arguments.
-pub(crate) fn has_pair(names: &Names, fault: PairFault, args: &[Arg]) -> bool
-    ensures { IsTrue result ↔ SomeTwo (HasPairFault names.now.environment fault) args.now }
+pub(crate) fn has_faulty_pair(known: &Known, fault: PairFault, args: &[Arg]) -> bool
+    ensures { IsTrue result ↔ SomeTwo (HasPairFault known.now fault) args.now }
 {
     for (i, a) in args.iter().enumerate() {
-        if pairs_with(names, fault, a, &args[i + 1..]) {
+        if has_fault_with_later(known, fault, a, &args[i + 1..]) {
             return true;
         }
     }

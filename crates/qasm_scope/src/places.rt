@@ -23,7 +23,7 @@ impl Model for Places {
 }
 
 impl Places {
-    ghost use Rattle.std.specs.Prelude.{◌≡◌, ◌<◌, ◌≤◌, ◌^◌, length, map, IfOk};
+    ghost use Rattle.std.specs.Prelude.{◌≡◌, ◌<◌, ◌^◌, length, map, IfOk};
     ghost use Rattle.std.specs.List.{position_or_len};
     ghost use Rattle.std.specs.Str.{bytes_eq};
     ghost use Rattle.qasm_parse.specs.declared.stmt.Arg.{Arg};

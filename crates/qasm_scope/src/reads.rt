@@ -8,7 +8,7 @@ use zac_gates::Memory;
 
 /// What was read of one register.
 #[derive(Drop)]
-pub struct RegisterReads {
+pub(crate) struct RegisterReads {
     /// Whether it was read whole.
     pub whole: bool,
     /// The places that were read one by one.
@@ -16,7 +16,7 @@ pub struct RegisterReads {
 }
 
 impl RegisterReads {
-    ghost use Rattle.std.specs.Prelude.{◌≡◌, ℕ, ◌<◌, ◌↔◌, ◌&&◌, ◌||◌, ◌==◌, IsTrue, false, Some, is_none, OnOk, OnErr};
+    ghost use Rattle.std.specs.Prelude.{◌≡◌, ℕ, ◌<◌, ◌↔◌, ◌||◌, IsTrue, false, Some, is_none, OnOk, OnErr};
     ghost use Rattle.std.specs.BTreeSet.{contains};
     ghost use Rattle.std.specs.Ordering.{nat_cmp};
     ghost use Rattle.qasm_scope.specs.Reads.{is_at};

@@ -4,6 +4,7 @@ use crate::binding::bound;
 use crate::fault::ScopeFault;
 use crate::gate::{GateDef, Target};
 use crate::header::read_header;
+use crate::known::Known;
 use crate::names::Names;
 use qasm_parse::Stmt;
 use std::alloc::Global;
@@ -35,13 +36,13 @@ impl Scope {
     ghost use Rattle.std.specs.Prelude.{◌≡◌, ℕ, [], ◌∷◌, ◌++◌, Some, take, slice_get, IfOk, OnOk, OnErr, MatchResult};
     ghost use Rattle.qasm_parse.specs.declared.stmt.BodyOp.{BodyOp};
     ghost use Rattle.qasm_parse.specs.declared.stmt.Stmt.TheVariants as stmt;
-    ghost use Rattle.qasm_scope.specs.Accepted.{AreFine, IsFine};
+    ghost use Rattle.qasm_scope.specs.Accepted.{AreAdmissible, IsAdmissible};
     ghost use Rattle.qasm_scope.specs.Bound.{IsWellBound};
     ghost use Rattle.qasm_scope.specs.Environment.{environment};
     ghost use Rattle.qasm_scope.specs.Header.{IsHeader};
     ghost use Rattle.qasm_scope.specs.Names.{callee, target_of};
     ghost use Rattle.qasm_scope.specs.Refusals.{IsFirstRefusal};
-    ghost use Rattle.qasm_scope.specs.Scopes.{AreFineInHeader};
+    ghost use Rattle.qasm_scope.specs.Scopes.{AreAdmissibleInHeader};
 
     /// No statements, behind the header.
     pub fn new(alloc: Global) -> Result<Scope, Memory>
@@ -58,7 +59,7 @@ impl Scope {
     /// Judges the statement that stands behind those that were admitted. Of several refusals the first is told: by kind,
     /// and then by offset. It takes no memory.
     pub fn check(&self, stmt: &Stmt) -> Result<(), ScopeFault>
-        ensures { MatchResult result (λ _. IsFine self.now.header self.now.statements stmt.now)
+        ensures { MatchResult result (λ _. IsAdmissible self.now.header self.now.statements stmt.now)
             (λ f. IsFirstRefusal (environment self.now.header self.now.statements) self.now.statements stmt.now f.kind f.at) }
     {
         match self.names.judge(stmt) {
@@ -70,12 +71,12 @@ impl Scope {
     /// Admits a statement that isn't refused. Without memory nothing changes. Memory is wanted too where a gate has 2^32
     /// parameters or arguments, or stands behind 2^32 gates.
     pub fn admit(&mut self, stmt: Stmt) -> Result<(), Memory>
-        requires { IsFine self.old.header self.old.statements stmt }
+        requires { IsAdmissible self.old.header self.old.statements stmt }
         ensures ok { OnOk result (self.new ≡ record { header = self.old.header; statements = self.old.statements ++ stmt ∷ [] }) }
         ensures err { OnErr result (self.new ≡ self.old) }
     {
         self.targets.reserve(1)?;
-        let target = target_in(&self.names, &stmt);
+        let target = target_in(self.names.known(), &stmt);
         self.names.enter(stmt)?;
         self.targets.push(target).unwrap();
         Ok(())
@@ -85,8 +86,8 @@ impl Scope {
     pub fn statements(&self) -> &[Stmt]
         ensures list { result.now ≡ self.now.statements }
         ensures header { IsHeader self.now.header }
-        ensures header_fine { AreFineInHeader [] self.now.header }
-        ensures fine { AreFine self.now.header [] self.now.statements }
+        ensures header_admissible { AreAdmissibleInHeader [] self.now.header }
+        ensures admissible { AreAdmissible self.now.header [] self.now.statements }
     {
         self.names.statements()
     }
@@ -97,7 +98,7 @@ impl Scope {
         ensures list { result.now ≡ (environment self.now.header self.now.statements).gates }
         ensures bound { (place : ℕ) → IsWellBound result.now place }
     {
-        self.names.gates()
+        self.names.known().gates()
     }
 
     /// What the call at a place of the statements is bound to. A call stands there.
@@ -114,11 +115,11 @@ ghost use Rattle.std.specs.Prelude.{◌≡◌};
 ghost use Rattle.qasm_scope.specs.Scopes.{bound_target};
 
 /// What a statement's call is bound to; a barrier where it is no call.
-fn target_in(names: &Names, stmt: &Stmt) -> Target
-    ensures { result ≡ bound_target names.now.environment stmt.now }
+fn target_in(known: &Known, stmt: &Stmt) -> Target
+    ensures { result ≡ bound_target known.now stmt.now }
 {
     match stmt {
-        Stmt::Call { call } => bound(names.callee(call.name.as_slice())),
+        Stmt::Call { call } => bound(known.callee(call.name.as_slice())),
         _ => Target::Barrier,
     }
 }

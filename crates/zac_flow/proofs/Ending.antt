@@ -4,7 +4,7 @@ use Rattle.zac_arch.specs.Architecture.{storage_count}
 use Rattle.zac_arch.specs.Tiny.{tiny_architecture}
 use Rattle.zac_gates.specs.Ops.{NativeCircuit}
 use Rattle.zac_io.specs.Outside.{NamedFiles, Holds, IsLonger, Rose, Appends, AppendsPrefix}
-use Rattle.zac_flow.specs.Answers.{Explains, Cause, IsSource, IsLineOf, Tells, Deserves, IsExact, RisesAt, source_limit}
+use Rattle.zac_flow.specs.Answers.{Explains, Cause, IsSource, IsLineOf, Tells, Deserves, IsExact, source_limit}
 use Rattle.zac_flow.specs.Ends.{status_of, refusal_line}
 use Rattle.zac_flow.specs.Told.{HasShelfCause, HasSinkCause}
 use Rattle.qasm_expand.specs.Expansion.{IsWithinLimits, PassesFirst}
@@ -31,11 +31,22 @@ line_of files name old new (fault.Qubits n s) h = (n, h.0, ap (λ m. refusal_lin
 line_of files name old new fault.Write h = refl
 line_of files name old new fault.Memory h = refl
 
+-- no refusal ends with Done
+not_done : (f : Fault) → status_of f ≡ Done → ⊥
+not_done fault.Usage e = cc
+not_done fault.Read e = cc
+not_done fault.Long e = cc
+not_done (fault.Source k at) e = cc
+not_done (fault.Limit k n) e = cc
+not_done (fault.Qubits n s) e = cc
+not_done fault.Write e = cc
+not_done fault.Memory e = cc
+
 pub tells_refusal : (files : Option NamedFiles) (name : List ℕ) (old new : Option (List ℕ)) (f : Fault) → Explains files name old new f →
     (err err' : Option (List ℕ)) (before now : ℕ) → AppendsPrefix err err' (refusal_line f) → (¬ Rose before now → Appends err err' (refusal_line f)) →
     Tells files (Some name) (status_of f) err err' before now
 tells_refusal files name old new f h err err' before now told whole =
-    record { line = refusal_line f; is = line_of files name old new f h; told = told; whole = whole }
+    record { line = refusal_line f; is = line_of files name old new f h; told = told; whole = whole; quiet = λ e. absurd (not_done f e) }
 
 -- what a shelf that tells its files holds under a name
 held_bytes : (file : NamedFiles) (text bytes found : List ℕ) → file text ≡ Some bytes → Holds (Some file) text found → found ≡ bytes
@@ -148,10 +159,6 @@ pub is_exact : (files : Option NamedFiles) (name : Option (List ℕ)) (old new :
 is_exact files name old new status h read write file text bytes deserved files_are name_is is d =
     let P : Option NamedFiles → Option (List ℕ) → Type 0 = λ fs n. Cause fs n old new status in
     exact_of file text bytes old new status deserved is (subst (λ n. P (Some file) n) name_is (subst (λ fs. P fs name) files_are h)) read write d
-
--- a status whose count hasn't risen isn't the status
-pub not_at : (which status : Status) (before now : ℕ) → RisesAt which status before now → ¬ Rose before now → status ≢ which
-not_at which status before now h calm e = calm (h.rises e)
 
 -- a refusal's reason is the cause of its status
 pub cause_of : (files : Option NamedFiles) (name : List ℕ) (old new : Option (List ℕ)) (f : Fault) → Explains files name old new f → Cause files (Some name) old new (status_of f)

@@ -47,7 +47,7 @@ no_next tokens end before from kind.Syntax at stops next = statement_or_fault to
 no_next tokens end before from (kind.Scope k) at stops next =
     let one = statement_once tokens from stops.0 next.statement stops.1 next.next stops.2 next.is in
     let first = subst (λ (s : Stmt). IsFirstRefusal (environment before.header before.statements) before.statements s k at) one.0 stops.3 in
-    next.fine k at first.refuses
+    next.admissible k at first.refuses
 
 stop_once : (tokens : List Lexeme) (end : ℕ) (before : Program) (from : ℕ) (k l : Refusal) (a b : ℕ) → StopsWith tokens from end before k a → StopsWith tokens from end before l b → (k ≡ l) × (a ≡ b)
 stop_once tokens end before from kind.Lex l a b left right = absurd left

@@ -11,7 +11,7 @@ use Rattle.qasm_parse.specs.declared.stmt.Stmt.TheVariants as stmt
 use Rattle.qasm_parse.specs.declared.symbol.Symbol.TheVariants as symbols
 use Rattle.qasm_parse.proofs.AnswerLemmas.{answer_every, answer_refused}
 use Rattle.qasm_parse.proofs.LoopLemmas.{length-lexemes_of}
-use Rattle.qasm_scope.specs.Accepted.{IsFine, Program}
+use Rattle.qasm_scope.specs.Accepted.{IsAdmissible, Program}
 use Rattle.qasm_scope.specs.Header.{IsHeader, header_text}
 use Rattle.qasm_scope.specs.declared.fault.ScopeKind.{ScopeKind}
 use Rattle.zac_flow.specs.Stages.{ExplainsReading, ExplainsStatement, StopsWith}
@@ -45,11 +45,11 @@ goes_on header tokens before from (s ∷ ss) to h =
 
 -- one more statement behind accepted ones
 pub accepted_push : (header : List Stmt) (tokens : List Lexeme) (before : List Stmt) (from : ℕ) (ss : List Stmt) (mid : ℕ) (s : Stmt) (next : ℕ) →
-    AreAccepted header tokens before from ss mid → IsStatement tokens mid s next → IsFine header (before ++ ss) s → AreAccepted header tokens before from (ss ++ s ∷ []) next
-accepted_push header tokens before from [] mid s next h is fine =
-    (next, subst (λ n. IsStatement tokens n s next) h is, subst (λ b. IsFine header b s) (append-nil before) fine, refl)
-accepted_push header tokens before from (t ∷ ss) mid s next h is fine =
-    (h.0, h.1, h.2, accepted_push header tokens (before ++ t ∷ []) h.0 ss mid s next h.3 is (subst (λ b. IsFine header b s) (sym (append_assoc before (t ∷ []) ss)) fine))
+    AreAccepted header tokens before from ss mid → IsStatement tokens mid s next → IsAdmissible header (before ++ ss) s → AreAccepted header tokens before from (ss ++ s ∷ []) next
+accepted_push header tokens before from [] mid s next h is admissible =
+    (next, subst (λ n. IsStatement tokens n s next) h is, subst (λ b. IsAdmissible header b s) (append-nil before) admissible, refl)
+accepted_push header tokens before from (t ∷ ss) mid s next h is admissible =
+    (h.0, h.1, h.2, accepted_push header tokens (before ++ t ∷ []) h.0 ss mid s next h.3 is (subst (λ b. IsAdmissible header b s) (sym (append_assoc before (t ∷ []) ss)) admissible))
 
 -- the tokens fall into accepted statements in one way
 pub one_way : (header : List Stmt) (tokens : List Lexeme) (before : List Stmt) (from : ℕ) (ss ts : List Stmt) (to : ℕ) → AreAccepted header tokens before from ss to → AreAccepted header tokens before from ts to → ss ≡ ts
@@ -70,7 +70,7 @@ pub record Next (header : List Stmt) (tokens : List Lexeme) (before : List Stmt)
   pub statement : Stmt
   pub next : ℕ
   pub is : IsStatement tokens from statement next
-  pub fine : IsFine header before statement
+  pub admissible : IsAdmissible header before statement
 
 pub next_of : (header : List Stmt) (tokens : List Lexeme) (before : List Stmt) (from : ℕ) (ss ts : List Stmt) (mid to : ℕ) → AreAccepted header tokens before from ss to → AreAccepted header tokens before from ts mid → mid < to → Next header tokens (before ++ ts) mid
 next_of header tokens before from [] ts mid to left right less =
@@ -79,7 +79,7 @@ next_of header tokens before from (s ∷ ss) [] mid to left right less = record 
   statement = s;
   next = left.0;
   is = subst (λ n. IsStatement tokens n s left.0) (sym right) left.1;
-  fine = subst (λ b. IsFine header b s) (sym (append-nil before)) left.2;
+  admissible = subst (λ b. IsAdmissible header b s) (sym (append-nil before)) left.2;
 }
 next_of header tokens before from (s ∷ ss) (t ∷ ts) mid to left right less =
     let same = statement_once tokens from s t left.0 right.0 left.1 right.1 in
@@ -166,8 +166,8 @@ module _ (source : List ℕ) (p : Program) (accepted : IsAccepted source p) wher
       let less : h.from < length accepted.lexed.tokens = omega (arith, is.goes_on, is.within, length-lexemes_of source accepted.lexed.tokens) in
       let found = next_is h.before h.from to less in
       let one = statement_once all h.from h.statement found.statement h.next found.next is found.is in
-      let fine : IsFine p.header h.before h.statement = subst (λ (s : Stmt). IsFine p.header h.before s) (sym one.0) found.fine in
-      (subst (λ (x : List Stmt). IsFine x h.before h.statement) (sym headers) fine) k at h.first.refuses
+      let admissible : IsAdmissible p.header h.before h.statement = subst (λ (s : Stmt). IsAdmissible p.header h.before s) (sym one.0) found.admissible in
+      (subst (λ (x : List Stmt). IsAdmissible x h.before h.statement) (sym headers) admissible) k at h.first.refuses
 
   -- an accepted source isn't refused
   pub accepted_or_refused : (k : Refusal) (at : ℕ) → IsRefusedAt source k at → ⊥

@@ -6,6 +6,7 @@ use Rattle.zac_io.specs.Outside.{NamedFiles, Holds, IsLonger, Rose, Appends, App
 use Rattle.zac_plan.specs.Performs.{Performs}
 use Rattle.zair_form.specs.declared.program.Instr.{Instr}
 use Rattle.zair_text.specs.Lines.{program_text, program_lines}
+use Rattle.zair_text.specs.Ranges.{AreWritable}
 use Rattle.zair_text.specs.Writing.{AppendsLines}
 use Rattle.zac_gates.specs.Ops.{NativeCircuit}
 use Rattle.qasm_expand.specs.Expansion.{IsWithinLimits, IsExpansion, PassesFirst}
@@ -42,11 +43,13 @@ pub record Compiles (files : Option NamedFiles) (name : List ℕ) (program : Lis
   pub fits : circuit.qubits ≤ storage_count tiny_architecture
   pub performs : Performs tiny_architecture circuit program
 
--- The headline: what a command wrote is the text of one program, which performs the source.
+-- The headline: what a command wrote is the text of one program, which performs the source. No other writable list of
+-- instructions has that text.
 pub record WritesProgram (files : Option NamedFiles) (name : List ℕ) (old new : Option (List ℕ)) : Type 0 where
   pub program : List Instr
   pub compiles : Compiles files name program
   pub text : Appends old new (program_text program)
+  pub alone : (other : List Instr) → AreWritable other → program_text other ≡ program_text program → other ≡ program
 
 -- a write failed, behind a prefix of that text
 pub record WritesPrefix (files : Option NamedFiles) (name : List ℕ) (old new : Option (List ℕ)) : Type 0 where
@@ -129,12 +132,13 @@ IsLineOf files name TooLong line = line ≡ codes "too long: source\n"
 IsLineOf files name Limit line =
     (k : LimitKind) × (count : ℕ) × IfSome name (λ file. HasPassed files file k count) × (line ≡ limit_line k count)
 
--- the run has told its line, or a prefix of it where a call failed
+-- the run has told its line, or a prefix of it where a call failed; after Done, which has no line, no call failed
 pub record Tells (files : Option NamedFiles) (name : Option (List ℕ)) (status : Status) (old new : Option (List ℕ)) (before now : ℕ) : Type 0 where
   pub line : List ℕ
   pub is : IsLineOf files name status line
   pub told : AppendsPrefix old new line
   pub whole : ¬ Rose before now → Appends old new line
+  pub quiet : status ≡ Done → now ≡ before
 
 -- a count of faults has risen exactly at this status, and is as it was at every other
 pub record RisesAt (which status : Status) (before now : ℕ) : Type 0 where

@@ -5,7 +5,7 @@ use Rattle.qasm_lex.specs.Lexed.{Lexed}
 use Rattle.qasm_parse.specs.Statements.{IsStatement, IsSyntaxFault}
 use Rattle.qasm_parse.specs.Symbols.{Lexeme, lexemes_of}
 use Rattle.qasm_parse.specs.declared.stmt.Stmt.{Stmt}
-use Rattle.qasm_scope.specs.Accepted.{IsFine, Program}
+use Rattle.qasm_scope.specs.Accepted.{IsAdmissible, Program}
 use Rattle.qasm_scope.specs.Environment.{environment}
 use Rattle.qasm_scope.specs.Header.{IsHeader}
 use Rattle.qasm_scope.specs.Refusals.{IsFirstRefusal}
@@ -17,7 +17,7 @@ use Rattle.zac_flow.specs.declared.source_fault.Refusal.TheVariants as kind
 abbrev pub AreAccepted : List Stmt → List Lexeme → List Stmt → ℕ → List Stmt → ℕ → Type 0
 AreAccepted header tokens before from [] to = to ≡ from
 AreAccepted header tokens before from (s ∷ ss) to =
-    (next : ℕ) × IsStatement tokens from s next × IsFine header before s × AreAccepted header tokens (before ++ s ∷ []) next ss to
+    (next : ℕ) × IsStatement tokens from s next × IsAdmissible header before s × AreAccepted header tokens (before ++ s ∷ []) next ss to
 
 -- The source is accepted as this program: its tokens are its statements, from the first to the last, and there is one at
 -- least; and its header is the one that an include stands for.

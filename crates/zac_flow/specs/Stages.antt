@@ -20,7 +20,7 @@ use Rattle.qasm_expand.specs.Expansion.{IsWithinLimits, IsExpansion, PassesFirst
 use Rattle.qasm_expand.specs.declared.fault.LimitKind.{LimitKind}
 use Rattle.qasm_expand.specs.declared.fault.ExpandFault.{ExpandFault}
 use Rattle.qasm_expand.specs.declared.fault.ExpandFault.TheVariants as expanding
-use Rattle.qasm_scope.specs.Accepted.{IsFine, Program}
+use Rattle.qasm_scope.specs.Accepted.{IsAdmissible, Program}
 use Rattle.qasm_scope.specs.Environment.{environment}
 use Rattle.qasm_scope.specs.Refusals.{IsFirstRefusal}
 use Rattle.qasm_scope.specs.declared.fault.ScopeFault.{ScopeFault}
@@ -95,7 +95,7 @@ ExplainsReading source other = ⊥
 pub record ReadsStatement (tokens : List Lexeme) (from : ℕ) (before after : Program) (next : ℕ) : Type 0 where
   pub statement : Stmt
   pub is : IsStatement tokens from statement next
-  pub fine : IsFine before.header before.statements statement
+  pub admissible : IsAdmissible before.header before.statements statement
   pub same_header : after.header ≡ before.header
   pub after_is : after.statements ≡ before.statements ++ statement ∷ []
 

@@ -52,15 +52,15 @@ fn compile_file<S: Shelf, K: Sink>(
 
 /// Does what the words say. The words are those after the program's name: `compile @tiny FILE`.
 ///
-/// `Done`: `out` gained the text of one program that performs the file's source on the tiny card, in every order
-/// that its times allow. `Usage` comes exactly where the words are no command. `ReadFault` comes only where a call
-/// on the shelf failed, `TooLong` exactly where the file has more than 4,194,304 bytes and no call failed,
-/// `SourceRefused` exactly where the file's source is refused, with the kind and the offset of the refusal in the line
-/// on `err`, `Limit` exactly where an accepted source passes a limit of the expansion, with the first such limit and its
-/// count in the line, `TooManyQubits` exactly where an accepted source within the limits has more qubits than storage
-/// traps, `WriteFault` only where a call on `out` failed, behind a prefix of the text. Want of memory may come always,
-/// behind whole lines. Every other refusal leaves `out` as it was. A refusal's line goes to `err`, whose failures change
-/// no status. The shelf is asked for the named file alone.
+/// `Done`: `out` gained the text of one program that performs the file's source on the tiny card, in every order that
+/// its times allow, and of no other writable list of instructions. `Usage` comes exactly where the words are no
+/// command. `ReadFault` comes only where a call on the shelf failed, `TooLong` exactly where the file has more than
+/// 4,194,304 bytes and no call failed, `SourceRefused` exactly where the file's source is refused, with the kind and
+/// the offset of the refusal in the line on `err`, `Limit` exactly where an accepted source passes a limit of the
+/// expansion, with the first such limit and its count in the line, `TooManyQubits` exactly where an accepted source
+/// within the limits has more qubits than storage traps, `WriteFault` only where a call on `out` failed, behind a
+/// prefix of the text. Want of memory may come always, behind whole lines. Every other refusal leaves `out` as it
+/// was. A refusal's line goes to `err`, whose failures change no status. The shelf is asked for the named file alone.
 ///
 /// A source is accepted where its tokens fall into statements, the first of them the version, and none is refused
 /// behind those before it. Tokens are judged first, and then each statement in turn: its syntax, and then its names,

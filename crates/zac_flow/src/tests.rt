@@ -239,42 +239,80 @@ fn tells_why_a_source_is_refused(rt: HostRuntime) -> Result<(), Fail> {
     Ok(())
 }
 
+// A register of one qubit and gates `g0` to `g{last}`, of which each but the first calls the one before it so often.
+fn nested(alloc: Global, last: u32, times: u32) -> Result<String, Fail> {
+    let mut text = "qreg q[1];gate g0(x) a { }".to_string(alloc)?;
+    for before in 0..last {
+        let gate = before + 1;
+        let opening = format!(in alloc; "gate g{gate}(x) a {{ ")?;
+        let call = format!(in alloc; "g{before}(x) a;")?;
+        text.push_str(opening.as_str())?;
+        for _ in 0..times {
+            text.push_str(call.as_str())?;
+        }
+        text.push_str("}")?;
+    }
+    Ok(text)
+}
+
+// The number 1 behind something so often.
+fn behind(alloc: Global, before: &str, times: u32) -> Result<String, Fail> {
+    let mut text = String::new(alloc);
+    for _ in 0..times {
+        text.push_str(before)?;
+    }
+    text.push_str("1")?;
+    Ok(text)
+}
+
 // Each limit with the count that first passes it. Each row stands behind the version line.
 #[test]
 fn tells_which_limit_is_passed(rt: HostRuntime) -> Result<(), Fail> {
+    let doubling = nested(rt.alloc(), 17, 2)?;
+    let chain = nested(rt.alloc(), 64, 1)?;
+    let long = behind(rt.alloc(), "1", 40)?;
+    let deep = behind(rt.alloc(), "-", 64)?;
+    let deeper = behind(rt.alloc(), "-", 256)?;
+    let sum = behind(rt.alloc(), "1+", 63)?;
     let rows = [
         (
-            "gate g a { U(0,11111111111111111111111111111111111111111,0) a; }",
+            format!(in rt.alloc(); "qreg q[9999];gate g a {{ U(0,{long},0) a; }}")?,
             "Literal 41",
         ),
-        ("qreg q[4096];qreg r[1];", "Qubits 4097"),
         (
-            "qreg q[18446744073709551616];creg c[18446744073709551615];measure q -> c;",
+            format!(in rt.alloc(); "qreg q[4096];qreg r[1];")?,
+            "Qubits 4097",
+        ),
+        (
+            format!(in rt.alloc();
+                "qreg q[18446744073709551616];creg c[18446744073709551615];measure q -> c;"
+            )?,
             "Qubits 18446744073709551615",
         ),
-        ("creg c[65536];creg d[1];", "Bits 65537"),
         (
-            "qreg q[1];gate g0 a { }gate g1 a { g0 a; g0 a; }gate g2 a { g1 a; g1 a; }gate g3 a { g2 a; g2 a; }gate g4 a { g3 a; g3 a; }gate g5 a { g4 a; g4 a; }gate g6 a { g5 a; g5 a; }gate g7 a { g6 a; g6 a; }gate g8 a { g7 a; g7 a; }gate g9 a { g8 a; g8 a; }gate g10 a { g9 a; g9 a; }gate g11 a { g10 a; g10 a; }gate g12 a { g11 a; g11 a; }gate g13 a { g12 a; g12 a; }gate g14 a { g13 a; g13 a; }gate g15 a { g14 a; g14 a; }gate g16 a { g15 a; g15 a; }gate g17 a { g16 a; g16 a; }g17 q[0];g0 q[0];g0 q[0];",
+            format!(in rt.alloc(); "creg c[65536];creg d[1];")?,
+            "Bits 65537",
+        ),
+        (
+            format!(in rt.alloc(); "{doubling}g17(pi) q;g0(pi) q;g0(pi) q;")?,
             "Calls 262145",
         ),
+        (format!(in rt.alloc(); "{chain}g64(pi) q;")?, "Depth 65"),
         (
-            "qreg q[1];gate g0 a { }gate g1 a { g0 a; }gate g2 a { g1 a; }gate g3 a { g2 a; }gate g4 a { g3 a; }gate g5 a { g4 a; }gate g6 a { g5 a; }gate g7 a { g6 a; }gate g8 a { g7 a; }gate g9 a { g8 a; }gate g10 a { g9 a; }gate g11 a { g10 a; }gate g12 a { g11 a; }gate g13 a { g12 a; }gate g14 a { g13 a; }gate g15 a { g14 a; }gate g16 a { g15 a; }gate g17 a { g16 a; }gate g18 a { g17 a; }gate g19 a { g18 a; }gate g20 a { g19 a; }gate g21 a { g20 a; }gate g22 a { g21 a; }gate g23 a { g22 a; }gate g24 a { g23 a; }gate g25 a { g24 a; }gate g26 a { g25 a; }gate g27 a { g26 a; }gate g28 a { g27 a; }gate g29 a { g28 a; }gate g30 a { g29 a; }gate g31 a { g30 a; }gate g32 a { g31 a; }gate g33 a { g32 a; }gate g34 a { g33 a; }gate g35 a { g34 a; }gate g36 a { g35 a; }gate g37 a { g36 a; }gate g38 a { g37 a; }gate g39 a { g38 a; }gate g40 a { g39 a; }gate g41 a { g40 a; }gate g42 a { g41 a; }gate g43 a { g42 a; }gate g44 a { g43 a; }gate g45 a { g44 a; }gate g46 a { g45 a; }gate g47 a { g46 a; }gate g48 a { g47 a; }gate g49 a { g48 a; }gate g50 a { g49 a; }gate g51 a { g50 a; }gate g52 a { g51 a; }gate g53 a { g52 a; }gate g54 a { g53 a; }gate g55 a { g54 a; }gate g56 a { g55 a; }gate g57 a { g56 a; }gate g58 a { g57 a; }gate g59 a { g58 a; }gate g60 a { g59 a; }gate g61 a { g60 a; }gate g62 a { g61 a; }gate g63 a { g62 a; }gate g64 a { g63 a; }g64 q[0];",
-            "Depth 65",
-        ),
-        (
-            "qreg q[1];U(0+1+1+1+1+1+1+1+1+1+1+1+1+1+1+1+1+1+1+1+1+1+1+1+1+1+1+1+1+1+1+1+1+1+1+1+1+1+1+1+1+1+1+1+1+1+1+1+1+1+1+1+1+1+1+1+1+1+1+1+1+1+1+1+1+1+1+1+1+1+1+1+1+1+1+1+1+1+1+1+1+1+1+1+1+1+1+1+1+1+1+1+1+1+1+1+1+1+1+1+1+1+1+1+1+1+1+1+1+1+1+1+1+1+1+1+1+1+1+1+1+1+1+1+1+1+1+1+1,0,0) q[0];",
+            format!(in rt.alloc(); "{chain}g0({deeper}) q;g64(pi) q;")?,
             "AngleNodes 257",
         ),
         (
-            "qreg q[1];U(----------------------------------------------------------------1,0,0) q[0];",
+            format!(in rt.alloc(); "{chain}g0({deep}) q;")?,
             "AngleDepth 65",
         ),
+        // 33,027 calls of 127 nodes each.
         (
-            "qreg q[1];gate g0(x,y,z) a { U(x,y,z) a; }gate g1(x,y,z) a { g0(x,y,z) a; g0(x,y,z) a; }gate g2(x,y,z) a { g1(x,y,z) a; g1(x,y,z) a; }gate g3(x,y,z) a { g2(x,y,z) a; g2(x,y,z) a; }gate g4(x,y,z) a { g3(x,y,z) a; g3(x,y,z) a; }gate g5(x,y,z) a { g4(x,y,z) a; g4(x,y,z) a; }gate g6(x,y,z) a { g5(x,y,z) a; g5(x,y,z) a; }gate g7(x,y,z) a { g6(x,y,z) a; g6(x,y,z) a; }gate g8(x,y,z) a { g7(x,y,z) a; g7(x,y,z) a; }gate g9(x,y,z) a { g8(x,y,z) a; g8(x,y,z) a; }gate g10(x,y,z) a { g9(x,y,z) a; g9(x,y,z) a; }gate g11(x,y,z) a { g10(x,y,z) a; g10(x,y,z) a; }gate g12(x,y,z) a { g11(x,y,z) a; g11(x,y,z) a; }gate g13(x,y,z) a { g12(x,y,z) a; g12(x,y,z) a; }g13(0+2*3+2*3+2*3+2*3+2*3+2*3+2*3+2*3+2*3+2*3+2*3+2*3+2*3+2*3+2*3+2*3+2*3+2*3+2*3+2*3+2*3+2*3+2*3+2*3+2*3+2*3+2*3+2*3+2*3+2*3,0+2*3+2*3+2*3+2*3+2*3+2*3+2*3+2*3+2*3+2*3+2*3+2*3+2*3+2*3+2*3+2*3+2*3+2*3+2*3+2*3+2*3+2*3+2*3+2*3+2*3+2*3+2*3+2*3+2*3+2*3,0+2*3+2*3+2*3+2*3+2*3+2*3+2*3+2*3+2*3+2*3+2*3+2*3+2*3+2*3+2*3+2*3+2*3+2*3+2*3+2*3+2*3+2*3+2*3+2*3+2*3+2*3+2*3+2*3+2*3+2*3) q[0];",
-            "AngleTotal 4194344",
+            format!(in rt.alloc(); "{doubling}g16({sum}) q;")?,
+            "AngleTotal 4194429",
         ),
     ];
-    for (rest, limit) in rows {
+    for (rest, limit) in rows.iter() {
         let source = format!(in rt.alloc(); "OPENQASM 2.0;\n{rest}")?;
         let told = format!(in rt.alloc(); "limit: {limit}\n")?;
         let source = bytes(rt.alloc(), source.as_bytes())?;

@@ -1,6 +1,7 @@
 use Rattle.std.proofs.Common.{◌≡◌, [], drop}
 use Rattle.std.specs.Prelude.{reverse}
-use Rattle.qasm_expand.specs.Angles.{texts, read_nodes}
+use Rattle.qasm_expand.specs.AngleReadings.{texts}
+use Rattle.qasm_expand.specs.StackReadings.{read_nodes}
 use Rattle.qasm_expand.proofs.angle_text.text_bytes.Given as goal
 
 abbrev pub invariant-loop-node : goal.invariant-loop-node

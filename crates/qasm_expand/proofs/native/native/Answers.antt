@@ -1,15 +1,14 @@
-use Rattle.std.proofs.Common.{◌≡◌, List, length, ap, subst, sym, ◌∙◌, arith}
+use Rattle.std.proofs.Common.{◌≡◌, ℕ, List, length, ap, subst, sym, ◌∙◌, arith}
 use Rattle.std.proofs.lemmas.Result.{err_from_is_err_and}
 use Rattle.zac_gates.specs.Ops.{NativeCircuit}
 use Rattle.zac_gates.specs.declared.circuit.Op.{Op}
 use Rattle.qasm_scope.specs.Environment.{environment}
 use Rattle.qasm_expand.specs.Expansion.{IsExpansion, top_calls}
-use Rattle.qasm_expand.specs.Limits.{long_before_calls}
+use Rattle.qasm_expand.specs.Limits.{passed_before_calls}
 use Rattle.qasm_expand.specs.Native.{pairs_in}
-use Rattle.qasm_expand.specs.Top.{HaveShortNumbers}
-use Rattle.qasm_expand.specs.WellBound.{IsWellBound}
-use Rattle.qasm_expand.proofs.BoundLemmas.{well_bound}
-use Rattle.qasm_expand.proofs.NativeLemmas.{true_gives, limit_tells, circuit_is, walked_expansion, expansion_is_valid, never_refused}
+use Rattle.qasm_scope.specs.Bound.{IsWellBound}
+use Rattle.qasm_scope.specs.declared.gate.GateDef.{GateDef}
+use Rattle.qasm_expand.proofs.NativeLemmas.{limit_tells, circuit_is, walked_expansion, expansion_is_valid, never_refused}
 use Rattle.qasm_expand.proofs.ProgramLemmas.{walk_few}
 use Rattle.qasm_expand.proofs.ReadyLemmas.{header_bare}
 use Rattle.qasm_expand.proofs.native.native.Goals as goal
@@ -17,7 +16,7 @@ use Rattle.qasm_expand.proofs.native.native.Goals as goal
 pub returns-in_err-refuse-clause-err : goal.returns-in_err-refuse-clause-err
 returns-in_err-refuse-clause-err c =
     let r = err_from_is_err_and c.from_residual.result c.from_residual.ensures.1 in
-    rw (r.1, r.2) (limit_tells c.args.scope.now c.long_before_calls.result c.in_err-refuse.field-0.0 (c.long_before_calls.ensures ∙ ap long_before_calls c.statements-statements.ensures.list) c.in_err-refuse.ensures.err)
+    rw (r.1, r.2) (limit_tells c.args.scope.now c.passed_before_calls.result c.in_err-refuse.field-0.0 (c.passed_before_calls.ensures ∙ ap passed_before_calls c.statements-statements.ensures.list) c.in_err-refuse.ensures.err)
 
 pub new-circuit-requires : goal.new-circuit-requires
 new-circuit-requires c =
@@ -44,9 +43,8 @@ pub unreachable-requires : goal.unreachable-requires
 unreachable-requires c =
     let p = c.args.scope.now in
     let gates = (environment p.header p.statements).gates in
-    let short : HaveShortNumbers c.gates.result.now = true_gives c.has_short_numbers.result c.if-not-has_short_numbers.false c.has_short_numbers.ensures in
-    let bound : IsWellBound gates = subst IsWellBound c.gates.ensures.list (well_bound c.gates.result.now c.gates.ensures.bound short) in
+    let bound : (place : ℕ) → IsWellBound gates place = λ place. subst (λ (gs : List GateDef). IsWellBound gs place) c.gates.ensures.list (c.gates.ensures.bound place) in
     let is = circuit_is p.statements c.statements-statements.result.now c.in_ok-registers.registers c.qubit_count.result c.bit_count.result c.into_ops.result c.in_ok-walk.walk.ops.items c.qubit_count.ensures c.bit_count.ensures c.in_ok-registers.ensures c.statements-statements.ensures.list c.into_ops.ensures in
     let expansion = subst (IsExpansion p) is (walked_expansion p c.in_ok-walk.walk c.in_ok-walk.ensures.ok) in
-    let valid = expansion_is_valid p _ (header_bare p.header c.statements-statements.ensures.header_fine) c.statements-statements.ensures.fine bound expansion in
+    let valid = expansion_is_valid p _ (header_bare p.header c.statements-statements.ensures.header_admissible) c.statements-statements.ensures.admissible bound expansion in
     never_refused (record { qubits = c.qubit_count.result; bits = c.bit_count.result; ops = c.into_ops.result }) c.in-Err.fault c.in-Op.op c.in-Op.is c.in-Err.ensures.err valid

@@ -8,14 +8,14 @@ use Rattle.qasm_scope.specs.declared.gate.Target.{Target}
 use Rattle.qasm_scope.specs.Applications.{applications, applied}
 use Rattle.qasm_scope.specs.Environment.{environment}
 use Rattle.qasm_expand.specs.Calls.{Visit}
-use Rattle.qasm_expand.specs.Items.Item.{Fenced}
+use Rattle.qasm_expand.specs.Items.Item.{Barrier}
 use Rattle.qasm_expand.specs.RegisterKinds.{IsPlaceIn}
 use Rattle.qasm_expand.specs.Sized.{sized}
 use Rattle.qasm_expand.specs.Top.{HaveShortNumbers, visits_of, readings_of, visits_in, visits_at}
 use Rattle.qasm_expand.specs.Walks.{Walks, Passes}
-use Rattle.qasm_expand.specs.WellBound.{Suits}
+use Rattle.qasm_expand.specs.Fit.{Suits}
 use Rattle.qasm_expand.specs.declared.kind.RegisterKind.TheVariants as register
-use Rattle.qasm_expand.proofs.BoundLemmas.{well_bound, ready_call, ready_reading}
+use Rattle.qasm_expand.proofs.BoundLemmas.{ready_call, ready_reading}
 use Rattle.qasm_expand.proofs.CallLemmas.{on_ok_map}
 use Rattle.qasm_expand.proofs.PlaceLemmas.{stmt_at, target_read, call_visits, reading_visits, other_visits}
 use Rattle.qasm_expand.proofs.ReadyLemmas.{header_bare}
@@ -37,9 +37,8 @@ target-requires c =
     let at = stmt_at c.statements-statements.result.now p.statements i c.index-statements-place.result (stmt.Call call) c.statements-statements.ensures.list c.requires.place c.index-statements-place.is c.in-Call.is in
     (call, ap (slice_get p.statements) c.in-Ok.ensures.1 ∙ at)
 
-pub apply_all-requires-clause-bound : goal.apply_all-requires-clause-bound
-apply_all-requires-clause-bound c =
-    well_bound c.gates-gates.result.now c.gates-gates.ensures.bound (subst HaveShortNumbers (sym c.gates-gates.ensures.list) c.requires.short)
+pub apply_all-requires-clause-short : goal.apply_all-requires-clause-short
+apply_all-requires-clause-short c = subst HaveShortNumbers (sym c.gates-gates.ensures.list) c.requires.short
 
 pub apply_all-requires-clause-closed : goal.apply_all-requires-clause-closed
 apply_all-requires-clause-closed c =
@@ -47,7 +46,7 @@ apply_all-requires-clause-closed c =
     let i = c.args.place in
     let call = c.in-Call.call in
     let at = stmt_at c.statements-statements.result.now p.statements i c.index-statements-place.result (stmt.Call call) c.statements-statements.ensures.list c.requires.place c.index-statements-place.is c.in-Call.is in
-    let ready = ready_call p.header p.statements i call (header_bare p.header c.statements-statements.ensures.header_fine) c.statements-statements.ensures.fine c.requires.before at in
+    let ready = ready_call p.header p.statements i call (header_bare p.header c.statements-statements.ensures.header_admissible) c.statements-statements.ensures.admissible c.requires.before at in
     ready.closed
 
 pub apply_all-requires-clause-suits : goal.apply_all-requires-clause-suits
@@ -56,7 +55,7 @@ apply_all-requires-clause-suits c =
     let i = c.args.place in
     let call = c.in-Call.call in
     let at = stmt_at c.statements-statements.result.now p.statements i c.index-statements-place.result (stmt.Call call) c.statements-statements.ensures.list c.requires.place c.index-statements-place.is c.in-Call.is in
-    let ready = ready_call p.header p.statements i call (header_bare p.header c.statements-statements.ensures.header_fine) c.statements-statements.ensures.fine c.requires.before at in
+    let ready = ready_call p.header p.statements i call (header_bare p.header c.statements-statements.ensures.header_admissible) c.statements-statements.ensures.admissible c.requires.before at in
     let target = target_read p i c.in-Ok.at call c.target.result c.in-Ok.ensures.1 (c.target.ensures call (ap (slice_get p.statements) c.in-Ok.ensures.1 ∙ at)) in
     subst (λ (gates : List GateDef). Suits gates c.target.result (length call.exprs) (length call.args)) (sym c.gates-gates.ensures.list) (subst (λ (t : Target). Suits (environment p.header p.statements).gates t (length call.exprs) (length call.args)) (sym target) ready.suits)
 
@@ -66,7 +65,7 @@ apply_all-requires-clause-places c =
     let i = c.args.place in
     let call = c.in-Call.call in
     let at = stmt_at c.statements-statements.result.now p.statements i c.index-statements-place.result (stmt.Call call) c.statements-statements.ensures.list c.requires.place c.index-statements-place.is c.in-Call.is in
-    let ready = ready_call p.header p.statements i call (header_bare p.header c.statements-statements.ensures.header_fine) c.statements-statements.ensures.fine c.requires.before at in
+    let ready = ready_call p.header p.statements i call (header_bare p.header c.statements-statements.ensures.header_admissible) c.statements-statements.ensures.admissible c.requires.before at in
     subst (λ (all : List Stmt). (k : ℕ) → k < applications (sized all) call.args → AllByRecursion (λ (arg : Arg). IsPlaceIn register.Qubit all (applied arg k)) call.args) (sym c.requires.registers) ready.places
 
 pub measure_all-requires-clause-qubits : goal.measure_all-requires-clause-qubits
@@ -76,7 +75,7 @@ measure_all-requires-clause-qubits c =
     let from = c.in-Measure.from in
     let into = c.in-Measure.into in
     let at = stmt_at c.statements-statements.result.now p.statements i c.index-statements-place.result (stmt.Measure from into c.in-Measure.at) c.statements-statements.ensures.list c.requires.place c.index-statements-place.is c.in-Measure.is in
-    let ready = ready_reading p.header p.statements i from into c.in-Measure.at (header_bare p.header c.statements-statements.ensures.header_fine) c.statements-statements.ensures.fine at in
+    let ready = ready_reading p.header p.statements i from into c.in-Measure.at (header_bare p.header c.statements-statements.ensures.header_admissible) c.statements-statements.ensures.admissible at in
     subst (λ (all : List Stmt). (k : ℕ) → k < applications (sized all) (from ∷ []) → IsPlaceIn register.Qubit all (applied from k)) (sym c.requires.registers) ready.qubits
 
 pub measure_all-requires-clause-bits : goal.measure_all-requires-clause-bits
@@ -86,7 +85,7 @@ measure_all-requires-clause-bits c =
     let from = c.in-Measure.from in
     let into = c.in-Measure.into in
     let at = stmt_at c.statements-statements.result.now p.statements i c.index-statements-place.result (stmt.Measure from into c.in-Measure.at) c.statements-statements.ensures.list c.requires.place c.index-statements-place.is c.in-Measure.is in
-    let ready = ready_reading p.header p.statements i from into c.in-Measure.at (header_bare p.header c.statements-statements.ensures.header_fine) c.statements-statements.ensures.fine at in
+    let ready = ready_reading p.header p.statements i from into c.in-Measure.at (header_bare p.header c.statements-statements.ensures.header_admissible) c.statements-statements.ensures.admissible at in
     subst (λ (all : List Stmt). (k : ℕ) → k < applications (sized all) (from ∷ []) → IsPlaceIn register.Bit all (applied into k)) (sym c.requires.registers) ready.bits
 
 pub returns-in-Ok-clause-ok : goal.returns-in-Ok-clause-ok
@@ -95,7 +94,7 @@ returns-in-Ok-clause-ok c =
     let i = c.args.place in
     let call = c.in-Call.call in
     let at = stmt_at c.statements-statements.result.now p.statements i c.index-statements-place.result (stmt.Call call) c.statements-statements.ensures.list c.requires.place c.index-statements-place.is c.in-Call.is in
-    let ready = ready_call p.header p.statements i call (header_bare p.header c.statements-statements.ensures.header_fine) c.statements-statements.ensures.fine c.requires.before at in
+    let ready = ready_call p.header p.statements i call (header_bare p.header c.statements-statements.ensures.header_admissible) c.statements-statements.ensures.admissible c.requires.before at in
     let target = target_read p i c.in-Ok.at call c.target.result c.in-Ok.ensures.1 (c.target.ensures call (ap (slice_get p.statements) c.in-Ok.ensures.1 ∙ at)) in
     let visits : visits_of c.args.registers.now c.target.result call ≡ visits_at p i = call_visits p i call c.args.registers.now c.target.result c.requires.registers target ready.visits at in
     on_ok_map c.apply_all.result (λ w. subst (λ (gates : List GateDef). Walks gates c.args.walk.now c.apply_all.new.walk (visits_at p i)) c.gates-gates.ensures.list (subst (Walks c.gates-gates.result.now c.args.walk.now c.apply_all.new.walk) visits w)) c.apply_all.ensures.ok
@@ -106,7 +105,7 @@ returns-in-Ok-clause-err c =
     let i = c.args.place in
     let call = c.in-Call.call in
     let at = stmt_at c.statements-statements.result.now p.statements i c.index-statements-place.result (stmt.Call call) c.statements-statements.ensures.list c.requires.place c.index-statements-place.is c.in-Call.is in
-    let ready = ready_call p.header p.statements i call (header_bare p.header c.statements-statements.ensures.header_fine) c.statements-statements.ensures.fine c.requires.before at in
+    let ready = ready_call p.header p.statements i call (header_bare p.header c.statements-statements.ensures.header_admissible) c.statements-statements.ensures.admissible c.requires.before at in
     let target = target_read p i c.in-Ok.at call c.target.result c.in-Ok.ensures.1 (c.target.ensures call (ap (slice_get p.statements) c.in-Ok.ensures.1 ∙ at)) in
     let visits : visits_of c.args.registers.now c.target.result call ≡ visits_at p i = call_visits p i call c.args.registers.now c.target.result c.requires.registers target ready.visits at in
     if_err_map c.apply_all.result (λ e w. subst (λ (gates : List GateDef). Passes gates c.args.walk.now (visits_at p i) e) c.gates-gates.ensures.list (subst (λ vs. Passes c.gates-gates.result.now c.args.walk.now vs e) visits w)) c.apply_all.ensures.err
@@ -118,7 +117,7 @@ returns-in-Measure-clause-ok c =
     let from = c.in-Measure.from in
     let into = c.in-Measure.into in
     let at = stmt_at c.statements-statements.result.now p.statements i c.index-statements-place.result (stmt.Measure from into c.in-Measure.at) c.statements-statements.ensures.list c.requires.place c.index-statements-place.is c.in-Measure.is in
-    let ready = ready_reading p.header p.statements i from into c.in-Measure.at (header_bare p.header c.statements-statements.ensures.header_fine) c.statements-statements.ensures.fine at in
+    let ready = ready_reading p.header p.statements i from into c.in-Measure.at (header_bare p.header c.statements-statements.ensures.header_admissible) c.statements-statements.ensures.admissible at in
     let visits : readings_of c.args.registers.now from into ≡ visits_at p i = reading_visits p i from into c.in-Measure.at c.args.registers.now c.requires.registers ready.visits at in
     let gates = (environment p.header p.statements).gates in
     on_ok_map c.measure_all.result (λ w. subst (Walks gates c.args.walk.now c.measure_all.new.walk) visits (w gates)) c.measure_all.ensures.ok
@@ -130,7 +129,7 @@ returns-in-Measure-clause-err c =
     let from = c.in-Measure.from in
     let into = c.in-Measure.into in
     let at = stmt_at c.statements-statements.result.now p.statements i c.index-statements-place.result (stmt.Measure from into c.in-Measure.at) c.statements-statements.ensures.list c.requires.place c.index-statements-place.is c.in-Measure.is in
-    let ready = ready_reading p.header p.statements i from into c.in-Measure.at (header_bare p.header c.statements-statements.ensures.header_fine) c.statements-statements.ensures.fine at in
+    let ready = ready_reading p.header p.statements i from into c.in-Measure.at (header_bare p.header c.statements-statements.ensures.header_admissible) c.statements-statements.ensures.admissible at in
     let visits : readings_of c.args.registers.now from into ≡ visits_at p i = reading_visits p i from into c.in-Measure.at c.args.registers.now c.requires.registers ready.visits at in
     let gates = (environment p.header p.statements).gates in
     if_err_map c.measure_all.result (λ e w. subst (λ vs. Passes gates c.args.walk.now vs e) visits (w gates)) c.measure_all.ensures.err
@@ -140,7 +139,7 @@ returns-in-Barrier-clause-ok c =
     let p = c.args.scope.now in
     let i = c.args.place in
     let at = stmt_at c.statements-statements.result.now p.statements i c.index-statements-place.result (stmt.Barrier c.in-Barrier.args c.in-Barrier.at) c.statements-statements.ensures.list c.requires.place c.index-statements-place.is c.in-Barrier.is in
-    let v : Visit = record { depth = 1; item = Fenced } in
+    let v : Visit = record { depth = 1; item = Barrier } in
     let visits : v ∷ [] ≡ visits_at p i = ap (visits_in p i) (sym at) in
     let gates = (environment p.header p.statements).gates in
     on_ok_map c.fence.result (λ h. subst (Walks gates c.args.walk.now c.fence.new.self) visits (walks_plain gates c.args.walk.now c.fence.new.self v tt refl h)) c.fence.ensures.ok
@@ -150,7 +149,7 @@ returns-in-Barrier-clause-err c =
     let p = c.args.scope.now in
     let i = c.args.place in
     let at = stmt_at c.statements-statements.result.now p.statements i c.index-statements-place.result (stmt.Barrier c.in-Barrier.args c.in-Barrier.at) c.statements-statements.ensures.list c.requires.place c.index-statements-place.is c.in-Barrier.is in
-    let v : Visit = record { depth = 1; item = Fenced } in
+    let v : Visit = record { depth = 1; item = Barrier } in
     let visits : v ∷ [] ≡ visits_at p i = ap (visits_in p i) (sym at) in
     let gates = (environment p.header p.statements).gates in
     if_err_map c.fence.result (λ e h. subst (λ vs. Passes gates c.args.walk.now vs e) visits (passes_plain gates c.args.walk.now v e h)) c.fence.ensures.err

@@ -1,10 +1,10 @@
-use Rattle.std.proofs.Common.{◌<◌, ◌∷◌, [], ap, subst, sym, ◌∙◌}
+use Rattle.std.proofs.Common.{rules, ◌≡◌, ◌<◌, ◌∷◌, [], map, ap, subst, sym, ◌∙◌}
 use Rattle.std.specs.List.{AllByRecursion}
 use Rattle.std.proofs.lemmas.Result.{err_from_is_err_and}
 use Rattle.qasm_parse.specs.declared.stmt.Arg.{Arg}
 use Rattle.qasm_scope.specs.Applications.{applications, applied}
 use Rattle.qasm_expand.specs.Calls.{at_depth}
-use Rattle.qasm_expand.specs.Items.{Item, application}
+use Rattle.qasm_expand.specs.Items.{Item, application, qubit_number}
 use Rattle.qasm_expand.specs.RegisterKinds.{IsPlaceIn}
 use Rattle.qasm_expand.specs.Sized.{sized}
 use Rattle.qasm_expand.specs.Top.{visits_of}
@@ -20,7 +20,9 @@ loop-k-init c = walks_none c.args.gates.now c.args.walk.now
 pub qubits-requires : goal.qubits-requires
 qubits-requires c =
     let less : c.loop-k.k < applications (sized c.args.registers.now) c.args.call.now.args = subst (λ n. c.loop-k.k < n) (c.applications-k-end.ensures ∙ ap (applications (sized c.args.registers.now)) c.as_slice-args.ensures) c.loop-k-test.true in
-    subst (AllByRecursion (λ (arg : Arg). IsPlaceIn register.Qubit c.args.registers.now (applied arg c.loop-k.k))) (sym c.as_slice-args.ensures) (c.requires.places c.loop-k.k less)
+    let placed : AllByRecursion (λ (arg : Arg). IsPlaceIn register.Qubit c.args.registers.now (applied arg c.loop-k.k)) c.as_slice-args.result.now =
+    subst (AllByRecursion (λ (arg : Arg). IsPlaceIn register.Qubit c.args.registers.now (applied arg c.loop-k.k))) (sym c.as_slice-args.ensures) (c.requires.places c.loop-k.k less) in
+    search (rules, placed)
 
 pub returns-in_err-qubits-clause-err : goal.returns-in_err-qubits-clause-err
 returns-in_err-qubits-clause-err c =
@@ -34,7 +36,8 @@ returns-in_err-apply-clause-err c =
     let f = application all c.args.target call in
     let p = err_from_is_err_and c.from_residual-in_err-apply.result c.from_residual-in_err-apply.ensures.1 in
     let less : c.loop-k.k < applications (sized all) call.args = subst (λ n. c.loop-k.k < n) (c.applications-k-end.ensures ∙ ap (applications (sized all)) c.as_slice-args.ensures) c.loop-k-test.true in
-    let is = application_is all c.args.target call c.loop-k.k c.as_slice.result.now c.in_ok-qubits.qubits.items c.as_slice-args.result.now c.as_slice.ensures c.as_slice-args.ensures c.in_ok-qubits.ensures in
+    let numbers : c.in_ok-qubits.qubits.items ≡ map (λ (arg : Arg). qubit_number all (applied arg c.loop-k.k)) c.as_slice-args.result.now = search rules in
+    let is = application_is all c.args.target call c.loop-k.k c.as_slice.result.now c.in_ok-qubits.qubits.items c.as_slice-args.result.now c.as_slice.ensures c.as_slice-args.ensures numbers in
     let fails : Passes c.args.gates.now c.loop-k.walk (at_depth 1 (f c.loop-k.k ∷ [])) c.in_err-apply.field-0.0 = subst (λ (i : Item). Passes c.args.gates.now c.loop-k.walk (at_depth 1 (i ∷ [])) c.in_err-apply.field-0.0) is c.in_err-apply.ensures.err in
     rw (p.1, p.2) (walks_fails c.args.gates.now c.args.walk.now c.loop-k.walk f c.loop-k.k (applications (sized all) call.args) c.in_err-apply.field-0.0 less c.loop-k.invariant fails)
 
@@ -43,6 +46,7 @@ loop-k-preserved c =
     let all = c.args.registers.now in
     let call = c.args.call.now in
     let f = application all c.args.target call in
-    let is = application_is all c.args.target call c.loop-k.k c.as_slice.result.now c.in_ok-qubits.qubits.items c.as_slice-args.result.now c.as_slice.ensures c.as_slice-args.ensures c.in_ok-qubits.ensures in
+    let numbers : c.in_ok-qubits.qubits.items ≡ map (λ (arg : Arg). qubit_number all (applied arg c.loop-k.k)) c.as_slice-args.result.now = search rules in
+    let is = application_is all c.args.target call c.loop-k.k c.as_slice.result.now c.in_ok-qubits.qubits.items c.as_slice-args.result.now c.as_slice.ensures c.as_slice-args.ensures numbers in
     let walks : Walks c.args.gates.now c.loop-k.walk c.apply.new.self (at_depth 1 (f c.loop-k.k ∷ [])) = subst (λ (i : Item). Walks c.args.gates.now c.loop-k.walk c.apply.new.self (at_depth 1 (i ∷ []))) is c.in_ok-apply.ensures.ok in
     walks_more c.args.gates.now c.args.walk.now c.loop-k.walk c.apply.new.self f c.loop-k.k c.loop-k.invariant walks

@@ -3,4 +3,4 @@ use Rattle.qasm_scope.specs.Applications.{applications}
 use Rattle.qasm_scope.proofs.applied.applications.Given as goal
 
 abbrev pub invariant-loop-arg : goal.invariant-loop-arg
-invariant-loop-arg l = applications l.names.environment (drop l.arg-index l.args) ≡ applications l.names.environment l.args
+invariant-loop-arg l = applications l.known (drop l.arg-index l.args) ≡ applications l.known l.args

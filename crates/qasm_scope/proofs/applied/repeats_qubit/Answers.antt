@@ -2,4 +2,4 @@ use Rattle.qasm_scope.proofs.ApplicationLemmas.{repeats_from}
 use Rattle.qasm_scope.proofs.applied.repeats_qubit.Goals as goal
 
 pub returns : goal.returns
-returns c = repeats_from c.args.names.now.environment c.args.args.now c.applications-times.ensures c.has_pair.ensures
+returns c = repeats_from c.args.known.now c.args.args.now c.applications-times.ensures c.has_faulty_pair.ensures

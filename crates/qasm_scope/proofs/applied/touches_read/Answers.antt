@@ -1,5 +1,7 @@
+use Rattle.std.proofs.Common.{◌∙◌, ap}
+use Rattle.qasm_scope.specs.Applications.{applications}
 use Rattle.qasm_scope.proofs.ApplicationLemmas.{touches_from}
 use Rattle.qasm_scope.proofs.applied.touches_read.Goals as goal
 
 pub returns : goal.returns
-returns c = touches_from c.args.names.now.environment c.args.args.now c.args.names.now.before c.applications.ensures c.touches_read_within.ensures
+returns c = touches_from c.args.names.now.environment c.args.args.now c.args.names.now.before (c.applications.ensures ∙ ap (λ e. applications e c.args.args.now) c.known.ensures) c.touches_read_within.ensures

@@ -6,4 +6,4 @@ use Rattle.qasm_scope.proofs.arguments.least_arg.Given as goal
 
 abbrev pub invariant-loop-arg : goal.invariant-loop-arg
 invariant-loop-arg l =
-    IsLeastOffset (OfFirst (λ arg at. HasArgFault l.names.environment l.register l.fault arg × (at ≡ arg.at)) l.args l.arg-index) l.least
+    IsLeastOffset (OfFirst (λ arg at. HasArgFault l.known l.register l.fault arg × (at ≡ arg.at)) l.args l.arg-index) l.least

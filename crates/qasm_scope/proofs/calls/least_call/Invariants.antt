@@ -6,4 +6,4 @@ use Rattle.qasm_scope.proofs.calls.least_call.Given as goal
 
 abbrev pub invariant-loop-call : goal.invariant-loop-call
 invariant-loop-call l =
-    IsLeastOffset (OfFirst (λ call at. HasCallFault l.names.environment l.fault call × (at ≡ call.at)) l.calls l.call-index) l.least
+    IsLeastOffset (OfFirst (λ call at. HasCallFault l.known l.fault call × (at ≡ call.at)) l.calls l.call-index) l.least

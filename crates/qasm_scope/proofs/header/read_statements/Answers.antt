@@ -1,7 +1,7 @@
 use Rattle.std.proofs.Common.{◌≤◌, length, sym, subst, arith}
 use Rattle.qasm_parse.specs.Statements.{IsStatement}
 use Rattle.qasm_parse.specs.Symbols.{lexemes_of}
-use Rattle.qasm_scope.specs.Accepted.{Situation}
+use Rattle.qasm_scope.specs.Accepted.{Context}
 use Rattle.qasm_scope.specs.Scopes.{IsReadHeader}
 use Rattle.qasm_scope.proofs.ScopeLemmas.{IsReadHeader-push, length-lexemes_of}
 use Rattle.qasm_scope.proofs.header.read_statements.Goals as goal
@@ -12,8 +12,8 @@ loop-place-preserved c =
     let now = c.loop-place.names in
     let is : IsStatement tokens c.loop-place.place c.in_ok-stmt.stmt c.in_ok-stmt.next = c.in_ok-stmt.ensures in
     let within : c.in_ok-stmt.next ≤ length tokens = is.within in
-    let P : Situation → Type 0 = λ x. IsReadHeader tokens c.in_ok-stmt.next x in
+    let P : Context → Type 0 = λ x. IsReadHeader tokens c.in_ok-stmt.next x in
     record {
       within = omega (arith, within, length-lexemes_of c.args.source.now c.args.tokens.now.tokens);
-      read = subst P (sym c.in_ok-take_in.ensures.entered) (IsReadHeader-push tokens c.loop-place.place c.in_ok-stmt.next now c.in_ok-stmt.stmt c.loop-place.invariant.read is (c.in_ok-take_in.ensures.fine c.loop-place.invariant.read.means));
+      read = subst P (sym c.in_ok-enter_judged.ensures.entered) (IsReadHeader-push tokens c.loop-place.place c.in_ok-stmt.next now c.in_ok-stmt.stmt c.loop-place.invariant.read is (c.in_ok-enter_judged.ensures.admissible c.loop-place.invariant.read.means));
     }

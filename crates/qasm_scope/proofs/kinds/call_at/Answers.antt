@@ -6,4 +6,4 @@ use Rattle.qasm_scope.proofs.kinds.call_at.Goals as goal
 
 pub returns : goal.returns
 returns c =
-    subst (λ (calls : List BodyOp). IsLeastOffset (HasCallFaultAt c.args.names.now.environment c.args.fault calls) c.least_call.result) c.calls_in.ensures c.least_call.ensures
+    subst (λ (calls : List BodyOp). IsLeastOffset (HasCallFaultAt c.args.known.now c.args.fault calls) c.least_call.result) c.calls_in.ensures c.least_call.ensures

@@ -3,4 +3,4 @@ use Rattle.qasm_scope.proofs.kinds.repeated_at.Goals as goal
 
 pub returns-in-Gate : goal.returns-in-Gate
 returns-in-Gate c =
-    repeated_gate c.args.names.now.environment c.in-Gate.is c.as_slice-in-Gate.ensures c.least_call.ensures
+    repeated_gate c.args.known.now c.in-Gate.is c.as_slice-in-Gate.ensures c.least_call.ensures

@@ -27,7 +27,7 @@ loop-place-preserved c =
     let r = c.in_ok-place.ensures.ok in
     let tokens = lexemes_of c.args.source.now c.args.tokens.now.tokens in
     let header = c.loop-place.scope.header in
-    let more = accepted_push header tokens [] 0 c.loop-place.scope.statements c.loop-place.place r.statement c.in_ok-place.place c.loop-place.invariant.so_far r.is r.fine in
+    let more = accepted_push header tokens [] 0 c.loop-place.scope.statements c.loop-place.place r.statement c.in_ok-place.place c.loop-place.invariant.so_far r.is r.admissible in
     let grown = subst (λ (ss : List Stmt). AreAccepted header tokens [] 0 ss c.in_ok-place.place) (sym r.after_is) more in
     record {
       within = omega (arith, r.is.within, length-lexemes_of c.args.source.now c.args.tokens.now.tokens);

@@ -3,10 +3,10 @@ use Rattle.std.specs.List.{AllByRecursion}
 use Rattle.std.specs.Prelude.{reverse}
 use Rattle.std.proofs.lemmas.Result.{err_from_is_err_and}
 use Rattle.qasm_expand.specs.Items.Item.{Applied}
-use Rattle.qasm_expand.specs.Limits.{long_calls}
+use Rattle.qasm_expand.specs.Limits.{passed_by_calls}
 use Rattle.qasm_expand.specs.Walks.{OpensFrame, pending}
 use Rattle.qasm_expand.specs.AngleNodes.{IsClosed}
-use Rattle.qasm_expand.specs.WellBound.{IsFit}
+use Rattle.qasm_expand.specs.Fit.{IsFit}
 use Rattle.qasm_expand.proofs.CallLemmas.{counted_small, on_ok_map}
 use Rattle.qasm_expand.proofs.FaultLemmas.{fault_memory}
 use Rattle.qasm_expand.proofs.FrameLemmas.{opens_fit}
@@ -30,7 +30,7 @@ pub returns-in_err-perform-clause-err : goal.returns-in_err-perform-clause-err
 returns-in_err-perform-clause-err c =
     let p = err_from_is_err_and c.from_residual-in_err-perform.result c.from_residual-in_err-perform.ensures.1 in
     let item = Applied c.args.target c.args.angles.now c.args.qubits.items in
-    rw (p.1, p.2) (first_passes c.args.gates.now c.args.self.now (record { depth = 1; item = item } ∷ []) c.in_err-perform.field-0.0 (fault_memory (long_calls c.args.self.now.calls c.args.self.now.nodes (record { depth = 1; item = item } ∷ [])) c.in_err-perform.field-0.0 c.in_err-perform.ensures.err))
+    rw (p.1, p.2) (first_passes c.args.gates.now c.args.self.now (record { depth = 1; item = item } ∷ []) c.in_err-perform.field-0.0 (fault_memory (passed_by_calls c.args.self.now.calls c.args.self.now.nodes (record { depth = 1; item = item } ∷ [])) c.in_err-perform.field-0.0 c.in_err-perform.ensures.err))
 
 pub finish-requires-clause-fit : goal.finish-requires-clause-fit
 finish-requires-clause-fit c =

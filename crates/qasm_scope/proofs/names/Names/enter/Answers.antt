@@ -1,12 +1,12 @@
 use Rattle.std.proofs.Common.{◌≡◌, ◌++◌, ◌<◌, [], ◌∷◌, ap, sym, ◌∙◌, if◌then◌else◌, arith, vec_len, vec_capacity}
-use Rattle.qasm_scope.specs.Accepted.{Situation}
+use Rattle.qasm_scope.specs.Accepted.{Context}
 use Rattle.qasm_scope.specs.Names.{own_meaning}
 use Rattle.qasm_scope.specs.Registers.{reads_of}
 use Rattle.qasm_scope.proofs.ReadLemmas.{AreReadsOf-push, AreReadsOf-at}
 use Rattle.qasm_scope.proofs.names.Names.enter.Goals as goal
 
 pub enter-requires : goal.enter-requires
-enter-requires c = λ x e. ap (λ (s : Situation). own_meaning s.environment x) c.self.view_is ∙ c.requires x e
+enter-requires c = λ x e. ap (λ (s : Context). own_meaning s.environment x) c.self.view_is ∙ c.requires x e
 
 pub invariant_of-self-2 : goal.invariant_of-self-2
 invariant_of-self-2 c =

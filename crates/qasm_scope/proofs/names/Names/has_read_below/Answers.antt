@@ -1,6 +1,7 @@
 use Rattle.std.proofs.Common.{◌≡◌, ◌<◌, ℕ, inl, inr, min, ap, sym, subst, ◌∙◌, arith}
 use Rattle.std.proofs.lemmas.Bool.{false≢true, ltb-true}
 use Rattle.std.proofs.lemmas.Bool.Decides.{Decides-ltb}
+use Rattle.qasm_scope.specs.Accepted.{Context}
 use Rattle.qasm_scope.specs.Names.{qubit_size, value_or}
 use Rattle.qasm_scope.specs.Registers.{reads_of}
 use Rattle.qasm_scope.proofs.ReadLemmas.{IsRead-to, IsRead-from, AreReadsOf-at, value_or-unwrap_or}
@@ -19,7 +20,7 @@ returns-then-is_whole c =
     let now = c.args.self.now in
     let r = reads_of c.self.inside.reads in
     let are = AreReadsOf-at r _ now.before (ap (λ s. s.before) c.self.view_is) c.self.invariant in
-    let size : c.unwrap_or.result ≡ value_or (qubit_size now.environment c.args.name.now) 0 = c.unwrap_or.ensures ∙ value_or-unwrap_or c.qubit_size.result 0 ∙ ap (λ o. value_or o 0) c.qubit_size.ensures in
+    let size : c.unwrap_or.result ≡ value_or (qubit_size now.environment c.args.name.now) 0 = c.unwrap_or.ensures ∙ value_or-unwrap_or c.qubit_size.result 0 ∙ ap (λ o. value_or o 0) (c.qubit_size.ensures ∙ ap (λ (s : Context). qubit_size s.environment c.args.name.now) c.self.view_is) in
     let places : c.min-places.result ≡ min c.args.bound (value_or (qubit_size now.environment c.args.name.now) 0) = c.min-places.ensures ∙ ap (λ n. min c.args.bound n) size in (
       λ h.
           let some : 0 < min c.args.bound (value_or (qubit_size now.environment c.args.name.now) 0) = let P : ℕ → Type 0 = λ n. 0 < n in subst P places (ltb-true 0 c.min-places.result h) in

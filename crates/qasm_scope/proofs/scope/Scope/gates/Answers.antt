@@ -2,11 +2,11 @@ use Rattle.std.proofs.Common.{List, ap, sym, subst, ◌∙◌}
 use Rattle.qasm_scope.specs.Bound.{IsWellBound}
 use Rattle.qasm_scope.specs.Names.{Environment}
 use Rattle.qasm_scope.specs.declared.gate.GateDef.{GateDef}
-use Rattle.qasm_scope.proofs.BoundLemmas.{IsWellBound-fine}
+use Rattle.qasm_scope.proofs.BoundLemmas.{IsWellBound-admissible}
 use Rattle.qasm_scope.proofs.scope.Scope.gates.Goals as goal
 
 pub returns-clause-bound : goal.returns-clause-bound
 returns-clause-bound c place =
     let P : List GateDef → Type 0 = λ l. IsWellBound l place in
     let names = c.self.inside.names in
-    subst P (sym (c.gates.ensures ∙ ap (λ (e : Environment). e.gates) c.self.invariant.means)) (IsWellBound-fine c.self.inside.header names.before c.self.invariant.header_fine c.self.invariant.fine place)
+    subst P (sym (c.gates.ensures ∙ ap (λ (e : Environment). e.gates) (c.known.ensures ∙ c.self.invariant.means))) (IsWellBound-admissible c.self.inside.header names.before c.self.invariant.header_admissible c.self.invariant.admissible place)

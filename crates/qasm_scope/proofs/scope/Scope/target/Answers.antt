@@ -5,7 +5,7 @@ use Rattle.qasm_scope.specs.Accepted.{Program}
 use Rattle.qasm_scope.specs.Environment.{opening, environment}
 use Rattle.qasm_scope.specs.Names.{callee, target_of}
 use Rattle.qasm_scope.specs.Scopes.{bound_target}
-use Rattle.qasm_scope.proofs.ScopeLemmas.{bound_targets-at, target-fine, AreFine-at, get_or-at}
+use Rattle.qasm_scope.proofs.ScopeLemmas.{bound_targets-at, target-admissible, AreAdmissible-at, get_or-at}
 use Rattle.qasm_scope.proofs.scope.Scope.target.Goals as goal
 
 pub index-requires : goal.index-requires
@@ -26,5 +26,5 @@ returns c call h =
     let e = environment header (take place before) in
     let there = ap (λ l. slice_get l place) c.self.invariant.bound ∙ bound_targets-at (opening header) before place (stmt.Call call) at in
     let item : c.index.result.now ≡ bound_target e (stmt.Call call) = c.index.ensures ∙ get_or-at c.self.inside.targets.items place (bound_target e (stmt.Call call)) c.index.result.now there in
-    let fine = AreFine-at header [] before place (stmt.Call call) c.self.invariant.fine at in
-    ap Some item ∙ target-fine e (take place before) call fine ∙ ap (λ l. target_of (callee (environment l (take place before)) call.name)) is_header ∙ ap (λ l. target_of (callee (environment c.args.self.now.header (take place l)) call.name)) is_before
+    let admissible = AreAdmissible-at header [] before place (stmt.Call call) c.self.invariant.admissible at in
+    ap Some item ∙ target-admissible e (take place before) call admissible ∙ ap (λ l. target_of (callee (environment l (take place before)) call.name)) is_header ∙ ap (λ l. target_of (callee (environment c.args.self.now.header (take place l)) call.name)) is_before

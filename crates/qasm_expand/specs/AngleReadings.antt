@@ -1,0 +1,32 @@
+-- The texts and the depths of nodes, as they are read with a stack.
+use Rattle.std.specs.Prelude.{ℕ, suc, List, [], ◌++◌, max, codes}
+use Rattle.qasm_parse.specs.declared.stmt.Node.{Node}
+use Rattle.qasm_parse.specs.declared.stmt.Node.TheVariants as node
+use Rattle.qasm_expand.specs.StackReadings.{Reading}
+use Rattle.qasm_expand.specs.Trees.{function_text, signed}
+
+abbrev pub depths : Reading ℕ
+depths = record { leaf = λ _. 1; one = λ _ d. suc d; two = λ _ d e. suc (max d e) }
+
+abbrev pub leaf_text : Node → List ℕ
+leaf_text (node.Number text) = text
+leaf_text node.Pi = codes "pi"
+leaf_text (node.Name name at) = name
+leaf_text other = []
+
+abbrev pub one_text : Node → List ℕ → List ℕ
+one_text (node.Apply f) operand = function_text f ++ (codes "(" ++ (operand ++ codes ")"))
+one_text other operand = codes "(-" ++ (operand ++ codes ")")
+
+abbrev pub sign_text : Node → List ℕ
+sign_text node.Plus = codes "+"
+sign_text node.Minus = codes "-"
+sign_text node.Times = codes "*"
+sign_text node.Over = codes "/"
+sign_text other = codes "^"
+
+abbrev pub two_text : Node → List ℕ → List ℕ → List ℕ
+two_text n left right = signed (sign_text n) left right
+
+abbrev pub texts : Reading (List ℕ)
+texts = record { leaf = leaf_text; one = one_text; two = two_text }

@@ -1,0 +1,42 @@
+-- Nodes in postfix order, read with a stack.
+use Rattle.std.specs.Prelude.{List, [], ◌∷◌}
+use Rattle.qasm_parse.specs.declared.stmt.Node.{Node}
+use Rattle.qasm_parse.specs.declared.stmt.Node.TheVariants as node
+
+-- an operator takes its one operand, or its two, from the stack, and puts its own value there
+abbrev pub on_one : {A : Type 0} → (A → A) → List A → List A
+on_one f [] = []
+on_one f (a ∷ stack) = f a ∷ stack
+
+abbrev pub on_two : {A : Type 0} → (A → A → A) → List A → List A
+on_two f [] = []
+on_two f (a ∷ []) = a ∷ []
+on_two f (b ∷ a ∷ stack) = f a b ∷ stack
+
+-- what a leaf, an operator with one operand and one with two stand for
+pub record Reading (A : Type 0) : Type 0 where
+  pub leaf : Node → A
+  pub one : Node → A → A
+  pub two : Node → A → A → A
+
+-- a leaf is put on the stack, and an operator takes its operands from it
+abbrev pub read_node : {A : Type 0} → Reading A → Node → List A → List A
+read_node r (node.Number text) stack = r.leaf (node.Number text) ∷ stack
+read_node r node.Pi stack = r.leaf node.Pi ∷ stack
+read_node r (node.Name name at) stack = r.leaf (node.Name name at) ∷ stack
+read_node r node.Negate stack = on_one (r.one node.Negate) stack
+read_node r (node.Apply f) stack = on_one (r.one (node.Apply f)) stack
+read_node r node.Plus stack = on_two (r.two node.Plus) stack
+read_node r node.Minus stack = on_two (r.two node.Minus) stack
+read_node r node.Times stack = on_two (r.two node.Times) stack
+read_node r node.Over stack = on_two (r.two node.Over) stack
+read_node r node.Power stack = on_two (r.two node.Power) stack
+
+abbrev pub read_nodes : {A : Type 0} → Reading A → List Node → List A → List A
+read_nodes r [] stack = stack
+read_nodes r (n ∷ ns) stack = read_nodes r ns (read_node r n stack)
+
+-- the first of a list, or another where it is empty
+abbrev pub first_or : {A : Type 0} → List A → A → A
+first_or [] other = other
+first_or (a ∷ rest) other = a

@@ -1,6 +1,0 @@
-use Rattle.qasm_scope.specs.Judged.{HasPairFault}
-use Rattle.qasm_scope.proofs.TestLemmas.{NoneBelow}
-use Rattle.qasm_scope.proofs.pairs.pairs_with.Given as goal
-
-abbrev pub invariant-loop-b : goal.invariant-loop-b
-invariant-loop-b l = NoneBelow (HasPairFault l.names.environment l.fault l.a) l.later l.b-index
