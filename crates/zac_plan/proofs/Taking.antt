@@ -9,12 +9,12 @@ use Rattle.zair_form.specs.declared.step.OneGate.{OneGate}
 use Rattle.zair_form.specs.declared.step.ReadOf.{ReadOf}
 use Rattle.zac_plan.specs.declared.planning.Planning.{Planning}
 use Rattle.zac_plan.specs.declared.timeline.Timeline.{Timeline}
-use Rattle.zac_plan.specs.Growth.{ArePlaced, GoesOn}
+use Rattle.zac_plan.specs.Growth.{AreTraps, GoesOn}
 use Rattle.zac_plan.specs.Pending.{Takes, TakesFirst, left_to_do}
 use Rattle.zac_plan.specs.Plan.{acts_from}
 use Rattle.zac_plan.proofs.Growing.{goes_nowhere, goes_on_append}
 
-pub takes_one : (a : Architecture) (old new : Planning) (n q : ℕ) (angles : Angles) (op : Op) → op ≡ One q angles → ArePlaced a old.at_site →
+pub takes_one : (a : Architecture) (old new : Planning) (n q : ℕ) (angles : Angles) (op : Op) → op ≡ One q angles → AreTraps a old.at_site →
     new.timeline ≡ old.timeline → new.at_site ≡ old.at_site → new.reads.items ≡ old.reads.items →
     new.ones.items ≡ old.ones.items ++ (record { op = n; q = q; angles = angles }) ∷ [] → Takes a old new n op
 takes_one a old new n q angles op is placed timeline at_site reads ones =
@@ -28,7 +28,7 @@ takes_one a old new n q angles op is placed timeline at_site reads ones =
           ∙ ap (λ (l : List OneGate). acts_from a (n + 1) old.at_site l old.reads.items ops) (sym ones)
           ∙ ap (λ (l : List ReadOf). acts_from a (n + 1) old.at_site new.ones.items l ops) (sym reads)
           ∙ ap (λ (o : Option (ℕ × ℕ)). acts_from a (n + 1) o new.ones.items new.reads.items ops) (sym at_site);
-      placed = subst (λ (o : Option (ℕ × ℕ)). ArePlaced a o) (sym at_site) placed;
+      placed = subst (λ (o : Option (ℕ × ℕ)). AreTraps a o) (sym at_site) placed;
       most = omega arith;
     }
 
@@ -40,7 +40,7 @@ drop_at {X} (y ∷ ys) (suc n) x h =
     drop_at ys n x h ∙ ap (λ m. x ∷ drop m (y ∷ ys)) (sym next)
 
 -- none have been taken
-pub takes_none : (a : Architecture) (p : Planning) (ops : List Op) → ArePlaced a p.at_site → TakesFirst a p p ops 0
+pub takes_none : (a : Architecture) (p : Planning) (ops : List Op) → AreTraps a p.at_site → TakesFirst a p p ops 0
 takes_none a p ops placed = record {
   acts = [];
   goes_on = goes_nowhere a.figures p.timeline;

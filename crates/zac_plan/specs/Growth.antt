@@ -26,10 +26,10 @@ pub record IsSite (a : Architecture) (site : Site) : Type 0 where
   pub left_in : site.left.0 < trap_count a
   pub right_in : site.right.0 < trap_count a
 
--- the pair's homes, the traps of its qubits' numbers, stand on the card
-abbrev pub ArePlaced : Architecture → Option (ℕ × ℕ) → Type 0
-ArePlaced a None = Unit {0}
-ArePlaced a (Some pair) = (pair.0 < trap_count a) × (pair.1 < trap_count a)
+-- the numbers of the pair's qubits are those of traps, which are their homes
+abbrev pub AreTraps : Architecture → Option (ℕ × ℕ) → Type 0
+AreTraps a None = Unit {0}
+AreTraps a (Some pair) = (pair.0 < trap_count a) × (pair.1 < trap_count a)
 
 -- a pair's qubits have homes on the card
 abbrev pub HasHomes : Architecture → Op → Type 0

@@ -4,7 +4,7 @@ use Rattle.zac_arch.specs.Architecture.{Architecture}
 use Rattle.zac_gates.specs.declared.circuit.Op.{Op}
 use Rattle.zair_form.specs.declared.program.Act.{Act}
 use Rattle.zac_plan.specs.declared.planning.Planning.{Planning}
-use Rattle.zac_plan.specs.Growth.{GoesOn, ArePlaced}
+use Rattle.zac_plan.specs.Growth.{GoesOn, AreTraps}
 use Rattle.zac_plan.specs.Plan.{acts_from}
 
 -- what is left to do in a plan, for the ops from number n on
@@ -21,7 +21,7 @@ pub record Takes (a : Architecture) (old new : Planning) (n : ℕ) (op : Op) : T
   pub acts : List Act
   pub goes_on : GoesOn a.figures old.timeline new.timeline acts
   pub left : (ops : List Op) → left_to_do a old n (op ∷ ops) ≡ acts ++ left_to_do a new (n + 1) ops
-  pub placed : ArePlaced a new.at_site
+  pub placed : AreTraps a new.at_site
   pub most : busy_until new ≤ busy_until old + 14000000000
 
 -- so have the first n of these ops
@@ -29,5 +29,5 @@ pub record TakesFirst (a : Architecture) (old new : Planning) (ops : List Op) (n
   pub acts : List Act
   pub goes_on : GoesOn a.figures old.timeline new.timeline acts
   pub left : left_to_do a old 0 ops ≡ acts ++ left_to_do a new n (drop n ops)
-  pub placed : ArePlaced a new.at_site
+  pub placed : AreTraps a new.at_site
   pub most : busy_until new ≤ busy_until old + 14000000000 * n

@@ -1,7 +1,7 @@
 //! What is added for each op of a circuit.
 
 ghost use Rattle.std.specs.Prelude.{◌≡◌, ◌≢◌, ℕ, ◌+◌, ◌*◌, ◌^◌, ◌<◌, ◌≤◌, OnOk, Some, [], ◌∷◌, ◌++◌, vec_len, IfSome, length};
-ghost use Rattle.zac_plan.specs.Growth.{GoesOn, IsSite, ArePlaced};
+ghost use Rattle.zac_plan.specs.Growth.{GoesOn, IsSite, AreTraps};
 ghost use Rattle.zac_plan.specs.Plan.{arrivals, returns, gates_of};
 ghost use Rattle.zair_form.specs.declared.program.Act.TheVariants.{Rydberg};
 
@@ -24,7 +24,7 @@ impl Timeline {
         at_site: Option<Pair>,
     ) -> Result<(), Memory>
         requires site { IsSite card.now site }
-        requires placed { ArePlaced card.now at_site }
+        requires placed { AreTraps card.now at_site }
         requires room { self.old.now + 6000000000 < 2 ^ 64 }
         ensures ok { OnOk result (GoesOn card.now.figures self.old self.new (returns card.now at_site)) }
         ensures most { OnOk result (self.new.now ≤ self.old.now + 6000000000) }
@@ -49,7 +49,7 @@ impl Timeline {
         b: u32,
     ) -> Result<(), Memory>
         requires site { IsSite card.now site }
-        requires placed { ArePlaced card.now (Some (a, b)) }
+        requires placed { AreTraps card.now (Some (a, b)) }
         requires room { self.old.now + 6000000000 < 2 ^ 64 }
         ensures ok { OnOk result (GoesOn card.now.figures self.old self.new (arrivals card.now a b)) }
         ensures most { OnOk result (self.new.now ≤ self.old.now + 6000000000) }
@@ -72,8 +72,8 @@ impl Timeline {
         pair: PairOf,
     ) -> Result<(), Memory>
         requires site { IsSite card.now site }
-        requires placed { ArePlaced card.now at_site }
-        requires pair_placed { ArePlaced card.now (Some (pair.a, pair.b)) }
+        requires placed { AreTraps card.now at_site }
+        requires pair_placed { AreTraps card.now (Some (pair.a, pair.b)) }
         requires room { self.old.now + 1000000000 * vec_len ones + 14000000000 < 2 ^ 64 }
         ensures ok { OnOk result (GoesOn card.now.figures self.old self.new
             (gates_of ones.items ++ (returns card.now at_site ++ (arrivals card.now pair.a pair.b ++ Rydberg (pair ∷ []) ∷ [])))) }

@@ -1,7 +1,7 @@
 //! What is done for each op of a circuit, in its order.
 
 ghost use Rattle.std.specs.Prelude.{◌≡◌, ◌+◌, ◌*◌, ◌^◌, ◌<◌, ◌≤◌, All, OnOk, vec_len, length};
-ghost use Rattle.zac_plan.specs.Growth.{IsSite, ArePlaced, HasHomes};
+ghost use Rattle.zac_plan.specs.Growth.{IsSite, AreTraps, HasHomes};
 
 use crate::build::Pair;
 use crate::timeline::{Site, Timeline};
@@ -36,7 +36,7 @@ impl Planning {
         op: &Op,
     ) -> Result<(), Memory>
         requires site { IsSite card.now site }
-        requires placed { ArePlaced card.now self.old.at_site }
+        requires placed { AreTraps card.now self.old.at_site }
         requires homes { HasHomes card.now op.now }
         requires room { self.old.timeline.now + 1000000000 * vec_len self.old.ones + 14000000000 < 2 ^ 64 }
         ensures takes { OnOk result (Takes card.now self.old self.new number op.now) }
@@ -82,7 +82,7 @@ impl Planning {
         ops: &[Op],
     ) -> Result<(), Memory>
         requires site { IsSite card.now site }
-        requires placed { ArePlaced card.now self.old.at_site }
+        requires placed { AreTraps card.now self.old.at_site }
         requires homes { All (HasHomes card.now) ops.now }
         requires few { length ops.now ≤ 786432 }
         requires start { busy_until self.old ≡ 0 }

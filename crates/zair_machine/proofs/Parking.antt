@@ -187,7 +187,7 @@ flies = record {
       );
 }
 
--- qubit 2 is held at row 1 and column 0, which stay
+-- qubit 2 is held at the beams of row id 1 and column id 0, which stay
 stays_held : (row column : ℕ) → Some (Held 0 1 0) ≡ Some (Held 0 row column) → Contains (0 ∷ []) row ⊎ Contains (1 ∷ []) column → ⊥
 stays_held row column e (inl h) = let z = is_one 0 row h in let r : 1 ≡ row = cc in absurd (omega arith)
 stays_held row column e (inr h) = let z = is_one 1 column h in let c : 0 ≡ column = cc in absurd (omega arith)

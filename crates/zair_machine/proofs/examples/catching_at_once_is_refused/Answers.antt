@@ -5,7 +5,7 @@ use Rattle.zair_machine.specs.Examples.{beam}
 use Rattle.zair_machine.specs.Parking.{caught_at}
 use Rattle.zair_machine.proofs.examples.catching_at_once_is_refused.Goals as goal
 
--- no listed atom is caught at the crossing of row 1 and column 1
+-- no listed atom is caught at the crossing of the second row and the second column
 no_corner : ¬ Any (λ (c : Caught). (c.row ≡ 1) × (c.column ≡ 1)) (caught_at 0 0 0 ∷ caught_at 1 0 1 ∷ caught_at 2 1 0 ∷ [])
 no_corner (zero, x, lt, e, (row, column)) = let at : 0 ≡ x.row = ap (λ (y : Caught). y.row) e in absurd (omega arith)
 no_corner (suc zero, x, lt, e, (row, column)) = let at : 0 ≡ x.row = ap (λ (y : Caught). y.row) e in absurd (omega arith)
