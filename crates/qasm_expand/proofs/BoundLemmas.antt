@@ -13,7 +13,7 @@ use Rattle.std.proofs.Common.{inl}
 use Rattle.qasm_expand.specs.declared.kind.RegisterKind.TheVariants as register
 use Rattle.qasm_expand.specs.AngleNodes.{IsClosed}
 use Rattle.qasm_expand.specs.Calls.{at_depth}
-use Rattle.qasm_expand.specs.Items.{application, reading, items_of}
+use Rattle.qasm_expand.specs.Items.{application, measurement, items_of}
 use Rattle.qasm_expand.specs.Limits.{passed_before_calls}
 use Rattle.qasm_expand.specs.RegisterKinds.{IsPlaceIn}
 use Rattle.qasm_expand.specs.Sized.{sized}
@@ -74,5 +74,5 @@ ready_reading header ss i from into start bare admissible at =
     record {
       qubits = λ k less. subst (λ all. IsPlaceIn register.Qubit all (applied from k)) back (one k less).qubit;
       bits = λ k less. subst (λ all. IsPlaceIn register.Bit all (applied into k)) back (one k less).bit;
-      visits = ap (λ n. at_depth 1 (map (reading ss from into) (range_with_len 0 n))) (sym times);
+      visits = ap (λ n. at_depth 1 (map (measurement ss from into) (range_with_len 0 n))) (sym times);
     }

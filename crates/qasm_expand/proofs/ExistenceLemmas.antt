@@ -20,7 +20,7 @@ use Rattle.qasm_scope.specs.Applications.{applications}
 use Rattle.qasm_scope.specs.Accepted.{Program, IsAdmissible, AreAdmissible}
 use Rattle.qasm_scope.specs.Bound.{Takes, IsWellBoundCall, IsWellBound}
 use Rattle.qasm_expand.specs.Expansion.{IsExpansion}
-use Rattle.qasm_expand.specs.Items.{Item, application, reading, items_of, items_behind, program_items}
+use Rattle.qasm_expand.specs.Items.{Item, application, measurement, items_of, items_behind, program_items}
 use Rattle.qasm_expand.specs.Items.Item.{Applied, Barrier, Measured}
 use Rattle.qasm_expand.specs.Native.{native_circuit}
 use Rattle.qasm_expand.specs.Replacing.{CallsOneOf, Expands, plain, replaces, IsPlain, inner, body_call, body_of}
@@ -103,7 +103,7 @@ calls_there gates all t call [] h = tt
 calls_there gates all t call (k ∷ ks) h =
     (suited gates t (length call.exprs) (length call.args) _ _ h, calls_there gates all t call ks h)
 
-readings_there : (gates : List GateDef) (all : List Stmt) (from into : Arg) (ks : List ℕ) → AllByRecursion (CallsOneOf gates) (map (reading all from into) ks)
+readings_there : (gates : List GateDef) (all : List Stmt) (from into : Arg) (ks : List ℕ) → AllByRecursion (CallsOneOf gates) (map (measurement all from into) ks)
 readings_there gates all from into [] = tt
 readings_there gates all from into (k ∷ ks) = (tt, readings_there gates all from into ks)
 

@@ -11,7 +11,7 @@ use Rattle.qasm_scope.specs.Applications.{Place, times_by, applications, applied
 use Rattle.qasm_scope.specs.Refusals.{SomeTwo, DifferInSize, ReadsUnevenly}
 use Rattle.qasm_scope.specs.Accepted.{IsAdmissible}
 use Rattle.qasm_expand.specs.declared.kind.RegisterKind.TheVariants as register
-use Rattle.qasm_expand.specs.Items.{qubit_count, bit_count, reading, items_of}
+use Rattle.qasm_expand.specs.Items.{qubit_count, bit_count, measurement, items_of}
 use Rattle.qasm_expand.specs.RegisterKinds.{IsPlaceIn}
 use Rattle.qasm_expand.proofs.EnvironmentLemmas.{IsBare}
 use Rattle.qasm_expand.proofs.AdmissibleLemmas.{fine_args, place_of, same_size, places_of}
@@ -53,15 +53,15 @@ apart_readings : (e : Environment) (from : Arg) (i j : ℕ) (index : Option ℕ)
 apart_readings e from i j None less within same = omega (arith, less, same)
 apart_readings e from i j (Some at) less within same = omega (arith, less, within)
 
-reading_spares : (e : Environment) (all : List Stmt) (from into : Arg) (i j : ℕ) → i < j → j < applications e (from ∷ []) → IsPlaceIn register.Qubit all (applied from i) → IsPlaceIn register.Qubit all (applied from j) → Spares (reading all from into i) (reading all from into j)
+reading_spares : (e : Environment) (all : List Stmt) (from into : Arg) (i j : ℕ) → i < j → j < applications e (from ∷ []) → IsPlaceIn register.Qubit all (applied from i) → IsPlaceIn register.Qubit all (applied from j) → Spares (measurement all from into i) (measurement all from into j)
 reading_spares e all from into i j less within p q (inl same) =
     apart_readings e from i j from.index less within (ap (λ (x : Place). x.1) (number-one register.Qubit all (applied from i) (applied from j) p q same))
 reading_spares e all from into i j less within p q (inr a) = absurd a
 
-readings_spare : (e : Environment) (all : List Stmt) (from into : Arg) (a n : ℕ) → ((k : ℕ) → k < a + n → k < applications e (from ∷ [])) → ((k : ℕ) → k < a + n → IsPlaceIn register.Qubit all (applied from k)) → AllSpare (map (reading all from into) (range_with_len a n))
+readings_spare : (e : Environment) (all : List Stmt) (from into : Arg) (a n : ℕ) → ((k : ℕ) → k < a + n → k < applications e (from ∷ [])) → ((k : ℕ) → k < a + n → IsPlaceIn register.Qubit all (applied from k)) → AllSpare (map (measurement all from into) (range_with_len a n))
 readings_spare e all from into a zero within at = tt
 readings_spare e all from into a (suc n) within at =
-    (all_map (Spares (reading all from into a)) (reading all from into) (range_with_len (a + 1) n) (all_range (λ k. Spares (reading all from into a) (reading all from into k)) (a + 1) n (λ k low high. reading_spares e all from into a k (omega arith) (within k (omega arith)) (at a (omega arith)) (at k (omega arith)))), readings_spare e all from into (a + 1) n (λ k high. within k (omega arith)) (λ k high. at k (omega arith)))
+    (all_map (Spares (measurement all from into a)) (measurement all from into) (range_with_len (a + 1) n) (all_range (λ k. Spares (measurement all from into a) (measurement all from into k)) (a + 1) n (λ k low high. reading_spares e all from into a k (omega arith) (within k (omega arith)) (at a (omega arith)) (at k (omega arith)))), readings_spare e all from into (a + 1) n (λ k high. within k (omega arith)) (λ k high. at k (omega arith)))
 
 measure_good : (header pre suf : List Stmt) (from into : Arg) (at : ℕ) → IsBare header → IsAdmissible header pre (stmt.Measure from into at) → AreGood header pre (stmt.Measure from into at) (pre ++ suf) (items_of (environment header pre) (pre ++ suf) (stmt.Measure from into at))
 measure_good header pre suf from into at bare admissible =
@@ -72,10 +72,10 @@ measure_good header pre suf from into at bare admissible =
     let good = λ (k : ℕ) (less : k < n). good_reading header pre suf from into at k bare admissible less in
     let fresh = λ (k : ℕ) (less : k < n). numbers_fresh e pre all k (from ∷ []) ((good k less).qubit, tt) (λ r. admissible kind.AfterRead at ((k, less, r), refl)) in
     record {
-      each = all_map (IsSound (environment header all).gates (qubit_count all) (bit_count all)) (reading all from into) (range_with_len 0 n) (all_range (λ k. IsSound (environment header all).gates (qubit_count all) (bit_count all) (reading all from into k)) 0 n (λ k low high. (number-below register.Qubit all (applied from k) (good k (omega arith)).qubit, number-below register.Bit all (applied into k) (good k (omega arith)).bit)));
+      each = all_map (IsSound (environment header all).gates (qubit_count all) (bit_count all)) (measurement all from into) (range_with_len 0 n) (all_range (λ k. IsSound (environment header all).gates (qubit_count all) (bit_count all) (measurement all from into k)) 0 n (λ k low high. (number-below register.Qubit all (applied from k) (good k (omega arith)).qubit, number-below register.Bit all (applied into k) (good k (omega arith)).bit)));
       spare = readings_spare e all from into 0 n (λ k high. omega arith) (λ k high. (good k (omega arith)).qubit);
-      fresh = all_map (IsFresh e pre all) (reading all from into) (range_with_len 0 n) (all_range (λ k. IsFresh e pre all (reading all from into k)) 0 n (λ k low high. fresh k (omega arith)));
-      reads = all_map (ReadsSoFar (enter e s) (pre ++ s ∷ []) all) (reading all from into) (range_with_len 0 n) (all_range (λ k. ReadsSoFar (enter e s) (pre ++ s ∷ []) all (reading all from into k)) 0 n (λ k low high. record { place = applied from k; at = (good k (omega arith)).qubit; number = refl; read = now_read header pre from into at k bare (omega arith) }));
+      fresh = all_map (IsFresh e pre all) (measurement all from into) (range_with_len 0 n) (all_range (λ k. IsFresh e pre all (measurement all from into k)) 0 n (λ k low high. fresh k (omega arith)));
+      reads = all_map (ReadsSoFar (enter e s) (pre ++ s ∷ []) all) (measurement all from into) (range_with_len 0 n) (all_range (λ k. ReadsSoFar (enter e s) (pre ++ s ∷ []) all (measurement all from into k)) 0 n (λ k low high. record { place = applied from k; at = (good k (omega arith)).qubit; number = refl; read = now_read header pre from into at k bare (omega arith) }));
     }
 
 none_good : (header pre : List Stmt) (s : Stmt) (all : List Stmt) → AreGood header pre s all []

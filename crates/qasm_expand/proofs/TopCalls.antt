@@ -15,7 +15,7 @@ use Rattle.qasm_expand.specs.declared.fault.ExpandFault.{ExpandFault}
 use Rattle.qasm_expand.specs.declared.fault.ExpandFault.TheVariants as fault
 use Rattle.qasm_expand.specs.Calls.{Visit, at_depth, none}
 use Rattle.qasm_expand.specs.Faults.{IsFault}
-use Rattle.qasm_expand.specs.Items.{Item, application, reading, qubit_number, bit_number}
+use Rattle.qasm_expand.specs.Items.{Item, application, measurement, qubit_number, bit_number}
 use Rattle.qasm_expand.specs.Items.Item.{Applied, Measured}
 use Rattle.qasm_expand.specs.Limits.{passed_by_calls}
 use Rattle.qasm_expand.specs.Walks.{Walks, Passes, VisitsCall}
@@ -71,7 +71,7 @@ pub application_is : (all : List Stmt) (t : Target) (call : BodyOp) (k : ℕ) (a
 application_is all t call k angles qubits args same_angles same_args is =
     ap (λ a. Applied t a qubits) same_angles ∙ ap (λ q. Applied t call.exprs q) (is ∙ ap (λ (xs : List Arg). map (λ (arg : Arg). qubit_number all (applied arg k)) xs) same_args)
 
-pub reading_is : (all : List Stmt) (from into : Arg) (k q b : ℕ) → q ≡ qubit_number all (applied from k) → b ≡ bit_number all (applied into k) → Measured q b ≡ reading all from into k
+pub reading_is : (all : List Stmt) (from into : Arg) (k q b : ℕ) → q ≡ qubit_number all (applied from k) → b ≡ bit_number all (applied into k) → Measured q b ≡ measurement all from into k
 reading_is all from into k q b e h = ap (λ x. Measured x b) e ∙ ap (λ x. Measured (qubit_number all (applied from k)) x) h
 
 -- a measurement in one application

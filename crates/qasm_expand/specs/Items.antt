@@ -45,14 +45,14 @@ bit_count (other ∷ ss) = bit_count ss
 abbrev pub application : List Stmt → Target → BodyOp → ℕ → Item
 application all to call k = Applied to call.exprs (map (λ arg. qubit_number all (applied arg k)) call.args)
 
-abbrev pub reading : List Stmt → Arg → Arg → ℕ → Item
-reading all from into k = Measured (qubit_number all (applied from k)) (bit_number all (applied into k))
+abbrev pub measurement : List Stmt → Arg → Arg → ℕ → Item
+measurement all from into k = Measured (qubit_number all (applied from k)) (bit_number all (applied into k))
 
 -- the calls of one statement
 abbrev pub items_of : Environment → List Stmt → Stmt → List Item
 items_of e all (stmt.Call call) =
     map (application all (value_or (target_of (callee e call.name)) target.Barrier) call) (range_with_len 0 (applications e call.args))
-items_of e all (stmt.Measure from into at) = map (reading all from into) (range_with_len 0 (applications e (from ∷ [])))
+items_of e all (stmt.Measure from into at) = map (measurement all from into) (range_with_len 0 (applications e (from ∷ [])))
 items_of e all (stmt.Barrier args at) = Barrier ∷ []
 items_of e all other = []
 

@@ -14,7 +14,7 @@ use Rattle.qasm_scope.specs.Accepted.{Program}
 use Rattle.qasm_scope.specs.Applications.{applications}
 use Rattle.qasm_scope.specs.Environment.{environment}
 use Rattle.qasm_expand.specs.Calls.{Visit, at_depth}
-use Rattle.qasm_expand.specs.Items.{application, reading, items_of}
+use Rattle.qasm_expand.specs.Items.{application, measurement, items_of}
 use Rattle.qasm_expand.specs.Expansion.{top_calls}
 use Rattle.qasm_expand.specs.Sized.{sized}
 use Rattle.qasm_expand.specs.Walks.{Walks, Passes}
@@ -27,7 +27,7 @@ visits_of all t call = at_depth 1 (map (application all t call) (range_with_len 
 
 -- those of a measurement
 abbrev pub readings_of : List Stmt → Arg → Arg → List Visit
-readings_of all from into = at_depth 1 (map (reading all from into) (range_with_len 0 (applications (sized all) (from ∷ []))))
+readings_of all from into = at_depth 1 (map (measurement all from into) (range_with_len 0 (applications (sized all) (from ∷ []))))
 
 -- each number has at most 40 bytes
 abbrev pub IsShort : Node → Type 0

@@ -1,6 +1,6 @@
 //! The numbers in expressions, each of at most 40 bytes.
 
-ghost use Rattle.std.specs.Prelude.{◌≡◌, option_to_list};
+ghost use Rattle.std.specs.Prelude.{◌≡◌};
 ghost use Rattle.std.specs.List.{flat_map};
 ghost use Rattle.qasm_expand.specs.Limits.{literal_of, literals_in, statement_literals, passed_by_literals};
 ghost use Rattle.qasm_expand.specs.Literals.{body_literals};

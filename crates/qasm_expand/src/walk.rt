@@ -29,7 +29,7 @@ pub(crate) struct Walk {
 }
 
 impl Walk {
-    ghost use Rattle.std.specs.Prelude.{◌≡◌, [], ◌∷◌, map, zip, OnOk, IfOk, IfErr};
+    ghost use Rattle.std.specs.Prelude.{◌≡◌, [], ◌∷◌, zip, OnOk, IfOk, IfErr};
     ghost use Rattle.qasm_expand.specs.Angles.{substitute};
     ghost use Rattle.qasm_expand.specs.Faults.{IsLimit, IsFault};
     ghost use Rattle.qasm_expand.specs.Limits.{passed_by_angles};

@@ -1,6 +1,6 @@
 //! The top call.
 
-ghost use Rattle.std.specs.Prelude.{◌≡◌, Err, IfOk, IfErr, OnOk, IsTrue, map, string_bytes, MatchOption, None};
+ghost use Rattle.std.specs.Prelude.{◌≡◌, Err, IfErr, OnOk, IsTrue, map, string_bytes, MatchOption, None};
 ghost use Rattle.zac_io.specs.Outside.{Rose, RoseWhere, is_missing, Appends, AppendsPrefix};
 ghost use Rattle.zac_flow.specs.Ends.{status_of, refusal_line};
 ghost use Rattle.zac_flow.specs.Words.{file_of};

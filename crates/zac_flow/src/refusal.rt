@@ -1,6 +1,6 @@
 //! The line of a refusal.
 
-ghost use Rattle.std.specs.Prelude.{◌≡◌, codes, decimal};
+ghost use Rattle.std.specs.Prelude.{◌≡◌};
 ghost use Rattle.zac_io.specs.Outside.{Writes, HasCause};
 ghost use Rattle.zac_flow.specs.Ends.{refusal_line, source_line, limit_line, qubits_line};
 
