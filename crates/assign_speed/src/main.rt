@@ -45,9 +45,11 @@ fn distances(alloc: Global, rows: u32, columns: u32) -> Result<Costs, Memory>
 /// What the rows pay at their columns.
 fn total(costs: &Costs, columns: &[u32]) -> u64 {
     let mut total = 0u64;
-    for (row, column) in (0u32..).zip(columns) {
-        if row < costs.rows() && *column < costs.columns() {
-            total = total.saturating_add(u64::from(costs.cost(row, *column)));
+    for row in 0..costs.rows() {
+        if let Some(&column) = columns.get(row as usize)
+            && column < costs.columns()
+        {
+            total = total.saturating_add(u64::from(costs.cost(row, column)));
         }
     }
     total

@@ -8,9 +8,9 @@ use Rattle.std.proofs.lemmas.Int.{ints}
 use Rattle.std.proofs.lemmas.Option.{same_Some}
 use Rattle.std.proofs.lemmas.Bool.{cases_eq}
 use Rattle.zac_assign.specs.Assignment.{Table, cost_at, IsAssignment, total_from, IsLeast, price_at, ProvesLeast}
-use Rattle.zac_assign.specs.Pairing.{mate, IsPairing}
+use Rattle.zac_pairing.specs.Pairing.{mate, IsPairing}
 use Rattle.zac_assign.specs.Search.{ArePrices}
-use Rattle.zac_assign.proofs.PairFacts.{mate_in}
+use Rattle.zac_pairing.proofs.PairingFacts.{mate_in}
 
 -- how much a price is below 0
 below_zero : ℤ → ℕ

@@ -1,4 +1,2 @@
-pub mod PairFacts
-pub mod TreeFacts
 pub mod SearchFacts
 pub mod Bound

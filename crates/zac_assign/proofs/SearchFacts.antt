@@ -1,16 +1,17 @@
 -- What the steps of a search keep.
 use Rattle.std.proofs.Common.{ℕ, ◌≡◌, ◌≢◌, ◌+◌, ◌-◌, ◌<◌, ◌≤◌, ◌⊎◌, inl, inr, List, [], ◌∷◌, ◌++◌, Option, Some, None, Bool, true, false, ◌||◌, length, set, sym, ◌∙◌, ap, arith, refl, subst, eqb, suc}
 use Rattle.std.specs.Prelude.{IsSome, is_some, slice_index}
-use Rattle.std.proofs.lemmas.List.{get_or-set_same, get_or-set_other, get_or_push, get_or_append_left, length_push}
+use Rattle.std.proofs.lemmas.List.{get_or-set_same, get_or-set_other, length_push}
 use Rattle.std.proofs.lemmas.List.Sums.{sum_by-cons}
 use Rattle.std.proofs.lemmas.Option.{none-some, same_Some}
 use Rattle.std.proofs.lemmas.Bool.{cases_eq, cases_lt, cases_Bool, both_ways, or_left, or_right, or_cases, eq-eqb, eqb-true}
-use Rattle.zac_assign.specs.declared.tree.Step.{Step}
+use Rattle.zac_pairing.specs.declared.tree.Step.{Step}
 use Rattle.zac_assign.specs.Assignment.{Table, cost_at}
-use Rattle.zac_assign.specs.Pairing.{mate, IsPairing, one_if_free, free_count}
-use Rattle.zac_assign.specs.Tree.{no_step, row_at, from_at, IsTree, HasPairs, AllPass}
+use Rattle.zac_pairing.specs.Pairing.{mate, IsPairing, one_if_free, free_count}
+use Rattle.zac_pairing.specs.Tree.{left_at, from_at, IsTree, HasPairs, AllPass}
 use Rattle.zac_assign.specs.Search.{is_used, ArePrices, IsSearch, IsFound, IsNearest, RaisesRows, RaisesColumns, Relaxes}
-use Rattle.zac_assign.proofs.PairFacts.{mate_in}
+use Rattle.zac_pairing.proofs.PairingFacts.{mate_in}
+use Rattle.zac_pairing.proofs.TreeFacts.{left_at_push, left_at_before, place_push, IsTree-push, pairs_push}
 
 -- ---- a column that no row has
 
@@ -44,34 +45,22 @@ is_used-set used c x h e = elim (cases_eq x c) [
   | inr d ↦ get_or-set_other used c x true false d ∙ e
 ]
 
--- ---- one more step
-
-pub row_at_push : (steps : List Step) (s : Step) → row_at (steps ++ s ∷ []) (length steps) ≡ s.row
-row_at_push steps s = ap (λ (x : Step). x.row) (get_or_push steps s no_step (length steps) refl)
-
-pub from_at_push : (steps : List Step) (s : Step) → from_at (steps ++ s ∷ []) (length steps) ≡ s.from
-from_at_push steps s = ap (λ (x : Step). x.from) (get_or_push steps s no_step (length steps) refl)
-
-pub row_at_before : (steps : List Step) (s : Step) (j : ℕ) → j < length steps → row_at (steps ++ s ∷ []) j ≡ row_at steps j
-row_at_before steps s j h = ap (λ (x : Step). x.row) (get_or_append_left steps (s ∷ []) no_step j h)
-
-pub from_at_before : (steps : List Step) (s : Step) (j : ℕ) → j < length steps → from_at (steps ++ s ∷ []) j ≡ from_at steps j
-from_at_before steps s j h = ap (λ (x : Step). x.from) (get_or_append_left steps (s ∷ []) no_step j h)
+-- ---- the tree
 
 -- a row is in the tree, or is not
-pub in_tree : (steps : List Step) (r n : ℕ) → ((k : ℕ) × (k < n) × (row_at steps k ≡ r)) ⊎ ((k : ℕ) → k < n → row_at steps k ≡ r → ⊥)
+pub in_tree : (steps : List Step) (r n : ℕ) → ((k : ℕ) × (k < n) × (left_at steps k ≡ r)) ⊎ ((k : ℕ) → k < n → left_at steps k ≡ r → ⊥)
 in_tree steps r Prim.Native.Nat.zero = inr (λ k h e. absurd (omega arith))
-in_tree steps r (suc n) = elim (cases_eq (row_at steps n) r) [
+in_tree steps r (suc n) = elim (cases_eq (left_at steps n) r) [
   | inl s ↦ inl (n, omega arith, s)
   | inr d ↦ elim (in_tree steps r n) [
     | inl p ↦ inl (p.0, omega (arith, p.1), p.2)
-    | inr f ↦ inr (λ k h e. elim (cases_eq k n) [ inl s ↦ d (ap (row_at steps) (sym s) ∙ e) | inr o ↦ f k (omega arith) e ])
+    | inr f ↦ inr (λ k h e. elim (cases_eq k n) [ inl s ↦ d (ap (left_at steps) (sym s) ∙ e) | inr o ↦ f k (omega arith) e ])
   ]
 ]
 
 -- ---- bounds
 
-module _ (table : Table) (price fee : List ℕ) (columns rows : List (Option ℕ)) (prices : ArePrices table price fee columns rows) (pairing : IsPairing columns rows) (columns_len : length columns ≡ table.rows) (rows_len : length rows ≡ table.columns) (small : (r c : ℕ) → cost_at table r c ≤ 8000000) (some_free : 0 < free_count rows) where
+module _ {table : Table} {price fee : List ℕ} {columns rows : List (Option ℕ)} (prices : ArePrices table price fee columns rows) (pairing : IsPairing columns rows) (columns_len : length columns ≡ table.rows) (rows_len : length rows ≡ table.columns) (small : (r c : ℕ) → cost_at table r c ≤ 8000000) (some_free : 0 < free_count rows) where
   free : (c : ℕ) × (c < length rows) × (mate rows c ≡ None)
   free = free_column rows some_free
 
@@ -91,11 +80,11 @@ module _ (table : Table) (price fee : List ℕ) (columns rows : List (Option ℕ
           let own = pairing.back r c e in
           omega (arith, prices.own r c own, price_small r (omega (arith, columns_len, mate_in columns r c own)))
 
-  module _ (used : List Bool) (distance from : List ℕ) (steps : List Step) (raised : ℕ) (search : IsSearch table price fee columns used distance from steps raised) where
+  module _ {used : List Bool} {distance from : List ℕ} {steps : List Step} {raised : ℕ} (search : IsSearch table price fee columns used distance from steps raised) where
     -- a column that no row has is not in the tree
     pub free_unused : (c : ℕ) → mate rows c ≡ None → is_used used c ≡ false
     free_unused c e = elim (cases_Bool (is_used used c)) [
-      | inl t ↦ let q = search.queued c t in absurd (none-some (row_at steps q.0) (sym e ∙ pairing.there (row_at steps q.0) c q.2))
+      | inl t ↦ let q = search.queued c t in absurd (none-some (left_at steps q.0) (sym e ∙ pairing.there (left_at steps q.0) c q.2))
       | inr f ↦ f
     ]
 
@@ -103,27 +92,27 @@ module _ (table : Table) (price fee : List ℕ) (columns rows : List (Option ℕ
     some_unused = let f = free in (f.0, omega (arith, f.1), free_unused f.0 f.2)
 
     -- the rows of the tree are rows of the table
-    pub row_in : (k : ℕ) → k < length steps → row_at steps k < table.rows
-    row_in k h = omega (arith, search.tree.in_rows k h, columns_len)
+    pub row_in : (k : ℕ) → k < length steps → left_at steps k < table.rows
+    row_in k h = omega (arith, search.tree.in_left k h, columns_len)
 
     pub raised_small : raised ≤ 8000000
-    raised_small = omega (arith, search.root_price, price_small (row_at steps 0) (row_in 0 search.tree.some))
+    raised_small = omega (arith, search.root_price, price_small (left_at steps 0) (row_in 0 search.tree.some))
 
     -- no distance is below what was raised
     pub distance_above : (c : ℕ) → c < table.columns → is_used used c ≡ false → raised ≤ slice_index distance c
     distance_above c h e =
         let a = search.attained c h e in
-        let bound = prices.bound (row_at steps (slice_index from c)) c (row_in (slice_index from c) a.0) h in
+        let bound = prices.bound (left_at steps (slice_index from c)) c (row_in (slice_index from c) a.0) h in
         omega (arith, a.1, bound)
 
-    module _ (j : ℕ) (distance_len : length distance ≡ table.columns) (nearest : IsNearest used distance j) where
+    module _ {j : ℕ} (distance_len : length distance ≡ table.columns) (nearest : IsNearest used distance j) where
       pub j_in : j < table.columns
       j_in = omega (arith, nearest.inside)
 
       pub j_above : raised ≤ slice_index distance j
       j_above = distance_above j j_in nearest.unused
 
-      pub raised_price_small : (k : ℕ) → k < length steps → slice_index price (row_at steps k) + (slice_index distance j - raised) ≤ 8000000
+      pub raised_price_small : (k : ℕ) → k < length steps → slice_index price (left_at steps k) + (slice_index distance j - raised) ≤ 8000000
       raised_price_small k h =
           let f = free in
           let f_in : f.0 < table.columns = omega (arith, f.1) in
@@ -131,18 +120,18 @@ module _ (table : Table) (price fee : List ℕ) (columns rows : List (Option ℕ
           let near = search.near k f.0 h f_in unused in
           let zero = prices.free f.0 f_in f.2 in
           let least = nearest.least f.0 (omega arith) unused in
-          omega (arith, near, zero, least, small (row_at steps k) f.0, j_above)
+          omega (arith, near, zero, least, small (left_at steps k) f.0, j_above)
 
       pub raised_fee_small : (k c : ℕ) → k < length steps → c < table.columns → slice_index fee c + (slice_index distance j - raised) ≤ 16000000
       raised_fee_small k c h c_in = omega (arith, raised_price_small k h, fee_small c c_in)
 
-      pub column_in : (k c : ℕ) → mate columns (row_at steps k) ≡ Some c → c < table.columns
-      column_in k c e = omega (arith, mate_in rows c (row_at steps k) (pairing.there (row_at steps k) c e))
+      pub column_in : (k c : ℕ) → mate columns (left_at steps k) ≡ Some c → c < table.columns
+      column_in k c e = omega (arith, mate_in rows c (left_at steps k) (pairing.there (left_at steps k) c e))
 
-      pub columns_distinct : (a b c : ℕ) → a < b → b < length steps → mate columns (row_at steps a) ≡ Some c → mate columns (row_at steps b) ≢ Some c
-      columns_distinct a b c l h e f = search.tree.distinct a b l h (same_Some (row_at steps a) (row_at steps b) (sym (pairing.there (row_at steps a) c e) ∙ pairing.there (row_at steps b) c f))
+      pub columns_distinct : (a b c : ℕ) → a < b → b < length steps → mate columns (left_at steps a) ≡ Some c → mate columns (left_at steps b) ≢ Some c
+      columns_distinct a b c l h e f = search.tree.distinct a b l h (same_Some (left_at steps a) (left_at steps b) (sym (pairing.there (left_at steps a) c e) ∙ pairing.there (left_at steps b) c f))
 
-      module _ (price' fee' : List ℕ) (up : RaisesRows steps (length steps) (slice_index distance j - raised) price price') (up_fee : RaisesColumns columns steps (length steps) (slice_index distance j - raised) fee fee') where
+      module _ {price' fee' : List ℕ} (up : RaisesRows steps (length steps) (slice_index distance j - raised) price price') (up_fee : RaisesColumns columns steps (length steps) (slice_index distance j - raised) fee fee') where
         by : ℕ
         by = slice_index distance j - raised
 
@@ -160,7 +149,7 @@ module _ (table : Table) (price fee : List ℕ) (columns rows : List (Option ℕ
           | inr f ↦ omega (arith, fee_unused c f)
         ]
 
-        price_in : (k : ℕ) → k < length steps → slice_index price' (row_at steps k) ≡ slice_index price (row_at steps k) + by
+        price_in : (k : ℕ) → k < length steps → slice_index price' (left_at steps k) ≡ slice_index price (left_at steps k) + by
         unfolding by
         price_in k h = up.inside k h
 
@@ -192,7 +181,7 @@ module _ (table : Table) (price fee : List ℕ) (columns rows : List (Option ℕ
                 let not_used : is_used used c ≡ false = elim (cases_Bool (is_used used c)) [
                   | inl t ↦
                       let q = search.queued c t in
-                      absurd (out q.0 q.1 (same_Some (row_at steps q.0) r (sym (pairing.there (row_at steps q.0) c q.2) ∙ pairing.there r c e)))
+                      absurd (out q.0 q.1 (same_Some (left_at steps q.0) r (sym (pairing.there (left_at steps q.0) c q.2) ∙ pairing.there r c e)))
                   | inr f ↦ f
                 ] in
                 omega (arith, up.outside r out, fee_unused c not_used, prices.own r c e)
@@ -216,16 +205,16 @@ module _ (table : Table) (price fee : List ℕ) (columns rows : List (Option ℕ
         }
 
         -- the nearest column costs just its price now
-        pub nearest_tight : (slice_index from j < length steps) × (slice_index price' (row_at steps (slice_index from j)) ≡ cost_at table (row_at steps (slice_index from j)) j + slice_index fee' j)
+        pub nearest_tight : (slice_index from j < length steps) × (slice_index price' (left_at steps (slice_index from j)) ≡ cost_at table (left_at steps (slice_index from j)) j + slice_index fee' j)
         nearest_tight =
             let a = search.attained j j_in nearest.unused in
             (a.0, omega (arith, price_in (slice_index from j) a.0, fee_unused j nearest.unused, a.1, by_is))
 
 -- ---- one more row in the tree
 
-module _ (table : Table) (price fee : List ℕ) (columns rows : List (Option ℕ)) (used : List Bool) (distance from distance' from' : List ℕ) (steps : List Step) (raised j next : ℕ) (pairing : IsPairing columns rows) (old : IsSearch table price fee columns used distance from steps raised) (j_in : j < table.columns) (j_used : j < length used) (unused : is_used used j ≡ false) (tight : (slice_index from j < length steps) × (slice_index price (row_at steps (slice_index from j)) ≡ cost_at table (row_at steps (slice_index from j)) j + slice_index fee j)) (mated : mate rows j ≡ Some next) (relaxed : (c : ℕ) → c < table.columns → is_used (set used j true) c ≡ false → Relaxes table (slice_index price next) fee next (length steps) raised c distance distance' from from') where
+module _ (table : Table) (price fee : List ℕ) (columns rows : List (Option ℕ)) (used : List Bool) (distance from distance' from' : List ℕ) (steps : List Step) (raised j next : ℕ) (pairing : IsPairing columns rows) (old : IsSearch table price fee columns used distance from steps raised) (j_in : j < table.columns) (j_used : j < length used) (unused : is_used used j ≡ false) (tight : (slice_index from j < length steps) × (slice_index price (left_at steps (slice_index from j)) ≡ cost_at table (left_at steps (slice_index from j)) j + slice_index fee j)) (mated : mate rows j ≡ Some next) (relaxed : (c : ℕ) → c < table.columns → is_used (set used j true) c ≡ false → Relaxes table (slice_index price next) fee next (length steps) raised c distance distance' from from') where
   step : Step
-  step = record { row = next; from = slice_index from j }
+  step = record { left = next; from = slice_index from j }
 
   more : List Step
   more = steps ++ step ∷ []
@@ -238,73 +227,33 @@ module _ (table : Table) (price fee : List ℕ) (columns rows : List (Option ℕ
   own = pairing.back next j mated
 
   place : (k : ℕ) → k < length more → (k < length steps) ⊎ (k ≡ length steps)
-  place k h = elim (cases_lt k (length steps)) [ inl l ↦ inl l | inr l ↦ inr (omega (arith, long)) ]
-
-  at_new : row_at more (length steps) ≡ next
-  unfolding more step
-  at_new = row_at_push steps step
-
-  from_new : from_at more (length steps) ≡ slice_index from j
-  unfolding more step
-  from_new = from_at_push steps step
-
-  at_old : (k : ℕ) → k < length steps → row_at more k ≡ row_at steps k
   unfolding more
-  at_old k h = row_at_before steps step k h
+  place = place_push steps step
 
-  from_old : (k : ℕ) → k < length steps → from_at more k ≡ from_at steps k
+  at_new : left_at more (length steps) ≡ next
+  unfolding more step
+  at_new = left_at_push steps step
+
+  at_old : (k : ℕ) → k < length steps → left_at more k ≡ left_at steps k
   unfolding more
-  from_old k h = from_at_before steps step k h
+  at_old k h = left_at_before steps step k h
 
   -- the row that has j is not in the tree yet, since j was not
-  apart : (k : ℕ) → k < length steps → row_at steps k ≢ next
+  apart : (k : ℕ) → k < length steps → left_at steps k ≢ next
   apart k h s = both_ways (is_used used j) unused (old.through k j h (ap (mate columns) s ∙ own))
 
   tree : IsTree columns more (length more)
-  tree = record {
-    some = omega (arith, long);
-    within = omega arith;
-    root = ap (mate columns) (at_old 0 old.tree.some) ∙ old.tree.root;
-    in_rows = λ k h. elim (place k h) [
-      | inl l ↦ omega (arith, at_old k l, old.tree.in_rows k l)
-      | inr s ↦ omega (arith, ap (row_at more) s ∙ at_new, mate_in columns next j own)
-    ];
-    distinct = λ i k l h s. elim (place k h) [
-      | inl m ↦ old.tree.distinct i k l m (sym (at_old i (omega arith)) ∙ (s ∙ at_old k m))
-      | inr e ↦ apart i (omega arith) (sym (at_old i (omega arith)) ∙ (s ∙ (ap (row_at more) e ∙ at_new)))
-    ];
-    earlier = λ k p h. elim (place k h) [
-      | inl l ↦ omega (arith, from_old k l, old.tree.earlier k p l)
-      | inr e ↦ omega (arith, ap (from_at more) e ∙ from_new, tight.0)
-    ];
-    later = λ k p h. elim (place k h) [
-      | inl l ↦ let P : ℕ → Type 0 = λ r. IsSome (mate columns r) in subst P (sym (at_old k l)) (old.tree.later k p l)
-      | inr e ↦
-          let P : ℕ → Type 0 = λ r. IsSome (mate columns r) in
-          let Q : Option ℕ → Type 0 = λ o. IsSome o in
-          subst P (sym (ap (row_at more) e ∙ at_new)) (subst Q (sym own) refl)
-    ];
-  }
+  unfolding more step
+  tree = IsTree-push columns steps step j old.tree tight.0 own apart
 
-  same_column : (k c : ℕ) → k ≡ length steps → mate columns (row_at more k) ≡ Some c → j ≡ c
-  same_column k c s e = same_Some j c (sym own ∙ (ap (mate columns) (sym (ap (row_at more) s ∙ at_new)) ∙ e))
+  same_column : (k c : ℕ) → k ≡ length steps → mate columns (left_at more k) ≡ Some c → j ≡ c
+  same_column k c s e = same_Some j c (sym own ∙ (ap (mate columns) (sym (ap (left_at more) s ∙ at_new)) ∙ e))
 
-  edges : (k c : ℕ) → 0 < k → k < length more → mate columns (row_at more k) ≡ Some c → slice_index price (row_at more (from_at more k)) ≡ cost_at table (row_at more (from_at more k)) c + slice_index fee c
-  edges k c p h e = elim (place k h) [
-    | inl l ↦
-        let before : from_at steps k < k = old.tree.earlier k p l in
-        let was = old.edges k c p l (ap (mate columns) (sym (at_old k l)) ∙ e) in
-        let same : row_at more (from_at more k) ≡ row_at steps (from_at steps k) = ap (row_at more) (from_old k l) ∙ at_old (from_at steps k) (omega arith) in
-        let P : ℕ → Type 0 = λ r. slice_index price r ≡ cost_at table r c + slice_index fee c in
-        subst P (sym same) was
-    | inr s ↦
-        let same : row_at more (from_at more k) ≡ row_at steps (slice_index from j) = ap (row_at more) (ap (from_at more) s ∙ from_new) ∙ at_old (slice_index from j) tight.0 in
-        let P : ℕ → Type 0 = λ r. slice_index price r ≡ cost_at table r c + slice_index fee c in
-        let Q : ℕ → Type 0 = λ x. slice_index price (row_at steps (slice_index from j)) ≡ cost_at table (row_at steps (slice_index from j)) x + slice_index fee x in
-        subst P (sym same) (subst Q (same_column k c s e) tight.1)
-  ]
+  edges : (k c : ℕ) → 0 < k → k < length more → mate columns (left_at more k) ≡ Some c → slice_index price (left_at more (from_at more k)) ≡ cost_at table (left_at more (from_at more k)) c + slice_index fee c
+  unfolding more step
+  edges = pairs_push columns steps step j old.tree tight.0 own apart (λ r c. slice_index price r ≡ cost_at table r c + slice_index fee c) old.edges tight.1
 
-  near : (k c : ℕ) → k < length more → c < table.columns → is_used (set used j true) c ≡ false → slice_index price (row_at more k) + slice_index distance' c ≤ cost_at table (row_at more k) c + slice_index fee c + raised
+  near : (k c : ℕ) → k < length more → c < table.columns → is_used (set used j true) c ≡ false → slice_index price (left_at more k) + slice_index distance' c ≤ cost_at table (left_at more k) c + slice_index fee c + raised
   near k c h c_in f =
       let was_unused : is_used used c ≡ false = (is_used-set_unused used j c j_used f).0 in
       elim (place k h) [
@@ -312,25 +261,25 @@ module _ (table : Table) (price fee : List ℕ) (columns rows : List (Option ℕ
             let was = old.near k c l c_in was_unused in
             let less : slice_index distance' c ≤ slice_index distance c = elim (relaxed c c_in f) [ inl r ↦ omega (arith, r.0) | inr r ↦ r.2 ] in
             let P : ℕ → Type 0 = λ r. slice_index price r + slice_index distance' c ≤ cost_at table r c + slice_index fee c + raised in
-            let now : slice_index price (row_at steps k) + slice_index distance' c ≤ cost_at table (row_at steps k) c + slice_index fee c + raised = omega (arith, was, less) in
+            let now : slice_index price (left_at steps k) + slice_index distance' c ≤ cost_at table (left_at steps k) c + slice_index fee c + raised = omega (arith, was, less) in
             subst P (sym (at_old k l)) now
         | inr s ↦
             let P : ℕ → Type 0 = λ r. slice_index price r + slice_index distance' c ≤ cost_at table r c + slice_index fee c + raised in
             let now : slice_index price next + slice_index distance' c ≤ cost_at table next c + slice_index fee c + raised = elim (relaxed c c_in f) [ inl r ↦ omega (arith, r.0, r.2) | inr r ↦ omega (arith, r.0) ] in
-            subst P (sym (ap (row_at more) s ∙ at_new)) now
+            subst P (sym (ap (left_at more) s ∙ at_new)) now
       ]
 
-  attained : (c : ℕ) → c < table.columns → is_used (set used j true) c ≡ false → (slice_index from' c < length more) × (slice_index price (row_at more (slice_index from' c)) + slice_index distance' c ≡ cost_at table (row_at more (slice_index from' c)) c + slice_index fee c + raised)
+  attained : (c : ℕ) → c < table.columns → is_used (set used j true) c ≡ false → (slice_index from' c < length more) × (slice_index price (left_at more (slice_index from' c)) + slice_index distance' c ≡ cost_at table (left_at more (slice_index from' c)) c + slice_index fee c + raised)
   attained c c_in f =
       let was_unused : is_used used c ≡ false = (is_used-set_unused used j c j_used f).0 in
       let P : ℕ → Type 0 = λ r. slice_index price r + slice_index distance' c ≡ cost_at table r c + slice_index fee c + raised in
       elim (relaxed c c_in f) [
         | inl r ↦
             let was = old.attained c c_in was_unused in
-            let same : row_at more (slice_index from' c) ≡ row_at steps (slice_index from c) = ap (row_at more) r.1 ∙ at_old (slice_index from c) was.0 in
-            let now : slice_index price (row_at steps (slice_index from c)) + slice_index distance' c ≡ cost_at table (row_at steps (slice_index from c)) c + slice_index fee c + raised = omega (arith, was.1, r.0) in
+            let same : left_at more (slice_index from' c) ≡ left_at steps (slice_index from c) = ap (left_at more) r.1 ∙ at_old (slice_index from c) was.0 in
+            let now : slice_index price (left_at steps (slice_index from c)) + slice_index distance' c ≡ cost_at table (left_at steps (slice_index from c)) c + slice_index fee c + raised = omega (arith, was.1, r.0) in
             (omega (arith, was.0, r.1, long), subst P (sym same) now)
-        | inr r ↦ (omega (arith, r.1, long), subst P (sym (ap (row_at more) r.1 ∙ at_new)) r.0)
+        | inr r ↦ (omega (arith, r.1, long), subst P (sym (ap (left_at more) r.1 ∙ at_new)) r.0)
       ]
 
   search : IsSearch table price fee columns (set used j true) distance' from' more raised
@@ -350,7 +299,7 @@ module _ (table : Table) (price fee : List ℕ) (columns rows : List (Option ℕ
     attained = attained;
   }
 
-  pub IsSearch-push : IsSearch table price fee columns (set used j true) distance' from' (steps ++ record { row = next; from = slice_index from j } ∷ []) raised
+  pub IsSearch-push : IsSearch table price fee columns (set used j true) distance' from' (steps ++ record { left = next; from = slice_index from j } ∷ []) raised
   unfolding more step
   IsSearch-push = search
 
@@ -368,13 +317,13 @@ own-is_own : (table : Table) (price fee : List ℕ) (r c : ℕ) → is_own table
 unfolding is_own
 own-is_own table price fee r c e = eqb-true (slice_index price r) (cost_at table r c + slice_index fee c) e
 
-pub ArePrices-flipped : (table : Table) (price fee : List ℕ) (columns rows columns' rows' : List (Option ℕ)) (steps : List Step) (from column : ℕ) → ArePrices table price fee columns rows → IsFound table price fee columns rows steps from column → ((test : ℕ → ℕ → Bool) → AllPass test columns → HasPairs test columns steps (length steps) → test (row_at steps from) column ≡ true → AllPass test columns') → ((c : ℕ) → mate rows' c ≡ None → mate rows c ≡ None) → ArePrices table price fee columns' rows'
+pub ArePrices-flipped : (table : Table) (price fee : List ℕ) (columns rows columns' rows' : List (Option ℕ)) (steps : List Step) (from column : ℕ) → ArePrices table price fee columns rows → IsFound table price fee columns rows steps from column → ((test : ℕ → ℕ → Bool) → AllPass test columns → HasPairs test columns steps (length steps) → test (left_at steps from) column ≡ true → AllPass test columns') → ((c : ℕ) → mate rows' c ≡ None → mate rows c ≡ None) → ArePrices table price fee columns' rows'
 ArePrices-flipped table price fee columns rows columns' rows' steps from column prices found pass kept =
     let all : AllPass (is_own table price fee) columns' =
     pass (is_own table price fee)
     (record { each = λ r c e. is_own-true table price fee r c (prices.own r c e) })
-    (record { each = λ k c p h e. is_own-true table price fee (row_at steps (from_at steps k)) c (found.edges k c p h e) })
-    (is_own-true table price fee (row_at steps from) column found.own) in
+    (record { each = λ k c p h e. is_own-true table price fee (left_at steps (from_at steps k)) c (found.edges k c p h e) })
+    (is_own-true table price fee (left_at steps from) column found.own) in
     record {
       bound = prices.bound;
       own = λ r c e. own-is_own table price fee r c (all.each r c e);
@@ -398,11 +347,11 @@ unfolding had_or_is
 had_or_is-cases columns row r c e = elim (or_cases (eqb r row) (is_some (mate columns r)) e) [ inl s ↦ inl (eqb-true r row s) | inr h ↦ inr h ]
 
 -- a row with no column has none after the search for another row's
-pub still_alone : (table : Table) (price fee : List ℕ) (columns rows columns' : List (Option ℕ)) (steps : List Step) (from column row : ℕ) → IsFound table price fee columns rows steps from column → ((test : ℕ → ℕ → Bool) → AllPass test columns → HasPairs test columns steps (length steps) → test (row_at steps from) column ≡ true → AllPass test columns') → row_at steps 0 ≡ row → (r : ℕ) → r ≢ row → mate columns r ≡ None → mate columns' r ≡ None
+pub still_alone : (table : Table) (price fee : List ℕ) (columns rows columns' : List (Option ℕ)) (steps : List Step) (from column row : ℕ) → IsFound table price fee columns rows steps from column → ((test : ℕ → ℕ → Bool) → AllPass test columns → HasPairs test columns steps (length steps) → test (left_at steps from) column ≡ true → AllPass test columns') → left_at steps 0 ≡ row → (r : ℕ) → r ≢ row → mate columns r ≡ None → mate columns' r ≡ None
 still_alone table price fee columns rows columns' steps from column row found pass root r d none =
-    let at : (k c : ℕ) → k < length steps → had_or_is columns row (row_at steps k) c ≡ true = λ k c h. elim (cases_lt 0 k) [
-      | inl p ↦ had_or_is-some columns row (row_at steps k) c (found.tree.later k p h)
-      | inr z ↦ had_or_is-same columns row (row_at steps k) c (ap (row_at steps) (let zero : k ≡ 0 = omega arith in zero) ∙ root)
+    let at : (k c : ℕ) → k < length steps → had_or_is columns row (left_at steps k) c ≡ true = λ k c h. elim (cases_lt 0 k) [
+      | inl p ↦ had_or_is-some columns row (left_at steps k) c (found.tree.later k p h)
+      | inr z ↦ had_or_is-same columns row (left_at steps k) c (ap (left_at steps) (let zero : k ≡ 0 = omega arith in zero) ∙ root)
     ] in
     let all : AllPass (had_or_is columns row) columns' =
     pass (had_or_is columns row)

@@ -8,24 +8,25 @@
 //! columns that it needs.
 #![tactic(auto)]
 
-mod pairs;
+mod chosen;
 mod prices;
 mod search;
 mod table;
-mod tree;
 
 ghost use Rattle.std.specs.Prelude.{◌≤◌, IfOk};
 ghost use Rattle.zac_assign.specs.Assignment.{IsAssignment, ProvesLeast, IsLeast, PricesBoundEveryChoice};
 
-use pairs::Pairs;
+use chosen::chosen_columns;
 use prices::{column_prices, row_prices};
 use search::{Room, add_rows};
-use std::alloc::{AllocError, Global};
+use std::alloc::Global;
 pub use table::Costs;
 use zac_gates::List;
+pub use zac_memory::Memory;
+use zac_pairing::Pairing;
 
 /// A least assignment, and prices that prove it.
-#[derive(Debug, Drop)]
+#[derive(Drop)]
 pub struct Assigned {
     /// The column of each row.
     pub columns: List<u32>,
@@ -33,16 +34,6 @@ pub struct Assigned {
     pub row_price: List<i64>,
     /// The price of each column: at most 0, and 0 on columns that are not chosen.
     pub column_price: List<i64>,
-}
-
-/// Memory ran out.
-#[derive(Clone, Copy, Debug, PartialEq, Eq)]
-pub struct Memory;
-
-impl From<AllocError> for Memory {
-    fn from(_error: AllocError) -> Memory {
-        Memory
-    }
 }
 
 /// Assigns a column to each row, no column twice, at the least cost in all. There are at least as
@@ -56,7 +47,7 @@ pub fn assign(alloc: Global, costs: &Costs) -> Result<Assigned, Memory>
 {
     let rows = costs.rows() as usize;
     let columns = costs.columns() as usize;
-    let mut pairs = Pairs::none(alloc, rows, columns)?;
+    let mut pairs = Pairing::none(alloc, rows, columns)?;
     let mut row_price = vec![in alloc; 0; rows]?;
     let mut column_fee = vec![in alloc; 0; columns]?;
     let mut room = Room::new(alloc, columns)?;
@@ -64,7 +55,7 @@ pub fn assign(alloc: Global, costs: &Costs) -> Result<Assigned, Memory>
     let fee = column_fee.as_mut_slice();
     add_rows(costs, &mut pairs, price, fee, &mut room)?;
     Ok(Assigned {
-        columns: List::of(pairs.chosen(alloc)?),
+        columns: List::of(chosen_columns(alloc, &pairs)?),
         row_price: List::of(row_prices(alloc, price)?),
         column_price: List::of(column_prices(alloc, fee)?),
     })
@@ -75,6 +66,3 @@ pub fn assign(alloc: Global, costs: &Costs) -> Result<Assigned, Memory>
 pub fn prices_bound_every_choice()
     ensures { PricesBoundEveryChoice }
 {}
-
-#[cfg(test)]
-mod tests;

@@ -5,7 +5,7 @@ use std::alloc::Global;
 use std::marker::Model;
 
 /// What each row pays at each column: whole numbers from 0 to 8,000,000.
-#[derive(Debug, Drop)]
+#[derive(Drop)]
 pub struct Costs {
     rows: u32,
     columns: u32,

@@ -1,5 +1,3 @@
-pub mod Pairs
 pub mod ChainFacts
-pub mod TreeFacts
+pub mod CoverFacts
 pub mod SearchFacts
-pub mod Cover

@@ -2,16 +2,19 @@
 use Rattle.std.proofs.Common.{ℕ, ◌≡◌, ◌≢◌, ◌+◌, ◌<◌, ◌≤◌, ◌⊎◌, inl, inr, List, [], ◌∷◌, ◌++◌, Option, Some, Bool, true, false, length, get_or, set, sym, ◌∙◌, ap, arith, refl, subst}
 use Rattle.std.specs.List.{Contains}
 use Rattle.std.specs.Prelude.{IsSome}
-use Rattle.std.proofs.lemmas.List.{get_or-set_same, get_or-set_other, get_or_push, get_or_append_left, length_push, get_or_past, get_or_default}
+use Rattle.std.proofs.lemmas.List.{get_or-set_same, get_or-set_other, length_push, get_or_past, get_or_default}
 use Rattle.std.proofs.lemmas.List.Elements.{Contains-get_or}
 use Rattle.std.proofs.lemmas.List.Sums.{sum_by-set}
 use Rattle.std.proofs.lemmas.Option.{same_Some}
 use Rattle.std.proofs.lemmas.Bool.{cases_eq, cases_lt, false≢true, both_ways}
-use Rattle.zac_match.specs.declared.search.Step.{Step}
+use Rattle.zac_pairing.specs.declared.tree.Step.{Step}
 use Rattle.zac_match.specs.Chains.{AreChained, left_end, link, bound}
-use Rattle.zac_match.specs.Pairing.{mate, IsPairing, IsMarked}
-use Rattle.zac_match.specs.Tree.{no_step, left_at, from_at, IsTree, HasEdges, IsSearch, Visits, one_if_unmarked, unmarked_count}
-use Rattle.zac_match.proofs.Pairs.{mate_in}
+use Rattle.zac_match.specs.Cover.{IsMarked, is_edge}
+use Rattle.zac_match.specs.Search.{IsSearch, Visits, one_if_unmarked, unmarked_count}
+use Rattle.zac_pairing.specs.Pairing.{mate, IsPairing}
+use Rattle.zac_pairing.specs.Tree.{left_at, IsTree, HasPairs}
+use Rattle.zac_pairing.proofs.TreeFacts.{left_at_push, left_at_before, place_push, IsTree-push, pairs_push}
+use Rattle.zac_match.proofs.CoverFacts.{is_edge-from_Contains}
 
 -- each edge of u from the number n on leads to a marked vertex
 abbrev pub EdgesMarked : List (ℕ × ℕ) → List Bool → ℕ → ℕ → Type 0
@@ -41,18 +44,6 @@ unmarked_count-set marks v h e =
     let one : one_if_unmarked (get_or marks v false) ≡ 1 = ap one_if_unmarked e in
     omega arith
 
-pub left_at_push : (steps : List Step) (s : Step) → left_at (steps ++ s ∷ []) (length steps) ≡ s.left
-left_at_push steps s = ap (λ (x : Step). x.left) (get_or_push steps s no_step (length steps) refl)
-
-pub from_at_push : (steps : List Step) (s : Step) → from_at (steps ++ s ∷ []) (length steps) ≡ s.from
-from_at_push steps s = ap (λ (x : Step). x.from) (get_or_push steps s no_step (length steps) refl)
-
-pub left_at_before : (steps : List Step) (s : Step) (j : ℕ) → j < length steps → left_at (steps ++ s ∷ []) j ≡ left_at steps j
-left_at_before steps s j h = ap (λ (x : Step). x.left) (get_or_append_left steps (s ∷ []) no_step j h)
-
-pub from_at_before : (steps : List Step) (s : Step) (j : ℕ) → j < length steps → from_at (steps ++ s ∷ []) j ≡ from_at steps j
-from_at_before steps s j h = ap (λ (x : Step). x.from) (get_or_append_left steps (s ∷ []) no_step j h)
-
 module _ (given : List (ℕ × ℕ)) (left right : List (Option ℕ)) (before marks : List Bool) (steps : List Step) (from u v : ℕ) (pairing : IsPairing left right) (old : IsSearch given left right before marks steps) (from_in : from < length steps) (edge : Contains given (left_at steps from, v)) (v_in : v < length marks) (unmarked : get_or marks v false ≡ false) (mated : mate right v ≡ Some u) where
   step : Step
   step = record { left = u; from = from }
@@ -69,64 +60,28 @@ module _ (given : List (ℕ × ℕ)) (left right : List (Option ℕ)) (before ma
 
   -- a place among the new steps is an old one or the new one
   place : (j : ℕ) → j < length more → (j < length steps) ⊎ (j ≡ length steps)
-  place j h = elim (cases_lt j (length steps)) [ inl l ↦ inl l | inr l ↦ inr (omega (arith, long)) ]
+  unfolding more
+  place = place_push steps step
 
   at_new : left_at more (length steps) ≡ u
   unfolding more step
   at_new = left_at_push steps step
 
-  from_new : from_at more (length steps) ≡ from
-  unfolding more step
-  from_new = from_at_push steps step
-
   at_old : (j : ℕ) → j < length steps → left_at more j ≡ left_at steps j
   unfolding more
   at_old j h = left_at_before steps step j h
-
-  from_old : (j : ℕ) → j < length steps → from_at more j ≡ from_at steps j
-  unfolding more
-  from_old j h = from_at_before steps step j h
 
   -- the new vertex is no old one, since v was not marked
   apart : (j : ℕ) → j < length steps → left_at steps j ≢ u
   apart j h s = both_ways (get_or marks v false) unmarked (old.through j v h (ap (mate left) s ∙ to_v))
 
   tree : IsTree left more (length more)
-  tree = record {
-    some = omega (arith, long);
-    within = omega arith;
-    root = ap (mate left) (at_old 0 old.tree.some) ∙ old.tree.root;
-    in_left = λ j h. elim (place j h) [
-      | inl l ↦ let was : left_at steps j < length left = old.tree.in_left j l in let P : ℕ → Type 0 = λ x. x < length left in subst P (sym (at_old j l)) was
-      | inr s ↦ let P : ℕ → Type 0 = λ x. x < length left in subst P (sym (ap (left_at more) s ∙ at_new)) (mate_in left u v to_v)
-    ];
-    distinct = λ i j l h s. elim (place j h) [
-      | inl k ↦ old.tree.distinct i j l k (sym (at_old i (omega arith)) ∙ (s ∙ at_old j k))
-      | inr e ↦ apart i (omega arith) (sym (at_old i (omega arith)) ∙ (s ∙ (ap (left_at more) e ∙ at_new)))
-    ];
-    earlier = λ j p h. elim (place j h) [
-      | inl l ↦ let was : from_at steps j < j = old.tree.earlier j p l in let same : from_at more j ≡ from_at steps j = from_old j l in omega arith
-      | inr e ↦ let same : from_at more j ≡ from = ap (from_at more) e ∙ from_new in omega arith
-    ];
-  }
+  unfolding more step
+  tree = IsTree-push left steps step v old.tree from_in to_v apart
 
-  edges : HasEdges given left more (length more)
-  edges = record {
-    each = λ j w p h e. elim (place j h) [
-      | inl l ↦
-          let below : from_at steps j < j = old.tree.earlier j p l in
-          let was : Contains given (left_at steps (from_at steps j), w) = old.edges.each j w p l (ap (mate left) (sym (at_old j l)) ∙ e) in
-          let same : left_at more (from_at more j) ≡ left_at steps (from_at steps j) = ap (left_at more) (from_old j l) ∙ at_old (from_at steps j) (omega arith) in
-          let P : ℕ → Type 0 = λ x. Contains given (x, w) in
-          subst P (sym same) was
-      | inr s ↦
-          let is_v : v ≡ w = same_Some v w (sym to_v ∙ (ap (mate left) (sym (ap (left_at more) s ∙ at_new)) ∙ e)) in
-          let same : left_at more (from_at more j) ≡ left_at steps from = ap (left_at more) (ap (from_at more) s ∙ from_new) ∙ at_old from from_in in
-          let P : ℕ → Type 0 = λ x. Contains given (x, w) in
-          let Q : ℕ → Type 0 = λ x. Contains given (left_at steps from, x) in
-          subst P (sym same) (subst Q is_v edge)
-    ];
-  }
+  edges : HasPairs (is_edge given) left more (length more)
+  unfolding more step
+  edges = record { each = pairs_push left steps step v old.tree from_in to_v apart (λ a b. is_edge given a b ≡ true) old.edges.each (is_edge-from_Contains given (left_at steps from) v edge) }
 
   search : IsSearch given left right before (set marks v true) more
   search = record {

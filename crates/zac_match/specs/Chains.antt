@@ -9,11 +9,12 @@ abbrev pub bound : Option ℕ → ℕ
 bound None = 0
 bound (Some e) = e + 1
 
--- the left end of an edge
+-- The left end of the edge of this number.
 abbrev pub left_end : List (ℕ × ℕ) → ℕ → ℕ
 left_end given k = (slice_index_or given k (0, 0)).0
 
--- each of the first n edges is on the chain of its left end, which goes down from the last
+-- Each of the first n edges is on a chain that begins with the last edge of its left vertex and goes down through
+-- earlier edges of that vertex, leaving out none.
 pub record AreChained (given : List (ℕ × ℕ)) (last before : List (Option ℕ)) (n : ℕ) : Type 0 where
   pub last_sound : (u e : ℕ) → link last u ≡ Some e → (e < n) × (left_end given e ≡ u)
   pub last_complete : (k : ℕ) → k < n → k < bound (link last (left_end given k))

@@ -1,4 +1,4 @@
 pub mod Choice
-pub mod Pairing
+pub mod Cover
 pub mod Chains
-pub mod Tree
+pub mod Search

@@ -7,21 +7,23 @@
 //! is the greatest.
 #![tactic(auto)]
 
-mod mates;
+mod chosen;
 mod neighbours;
 mod search;
 
 ghost use Rattle.std.specs.Prelude.{IfOk};
 ghost use Rattle.zac_match.specs.Choice.{EndsBelow, IsChoice, IsGreatest};
 
-use mates::Mates;
+use chosen::chosen_edges;
 use neighbours::Neighbours;
 use search::pass;
-use std::alloc::{AllocError, Global};
+use std::alloc::Global;
 use zac_gates::List;
+pub use zac_memory::Memory;
+use zac_pairing::Pairing;
 
 /// The edges of a bipartite graph.
-#[derive(Debug, Drop)]
+#[derive(Drop)]
 pub struct Edges {
     /// How many vertices are on the left.
     pub left: u32,
@@ -32,20 +34,10 @@ pub struct Edges {
 }
 
 /// The chosen edges.
-#[derive(Debug, Drop)]
+#[derive(Drop)]
 pub struct Matched {
     /// Each as its left end and its right end, by rising left end.
     pub pairs: List<(u32, u32)>,
-}
-
-/// Memory ran out.
-#[derive(Clone, Copy, Debug, PartialEq, Eq)]
-pub struct Memory;
-
-impl From<AllocError> for Memory {
-    fn from(_error: AllocError) -> Memory {
-        Memory
-    }
 }
 
 /// A greatest matching: edges with no end twice, and no set of the given edges with no end twice is
@@ -57,15 +49,12 @@ pub fn matching(alloc: Global, edges: &Edges) -> Result<Matched, Memory>
 {
     let pairs = edges.pairs.as_slice();
     let neighbours = Neighbours::of(alloc, edges.left as usize, pairs)?;
-    let mut mates = Mates::none(alloc, edges.left as usize, edges.right as usize)?;
+    let mut mates = Pairing::none(alloc, edges.left as usize, edges.right as usize)?;
     let mut marks = vec![in alloc; false; edges.right as usize]?;
     let mut steps = Vec::new(alloc);
     while pass(pairs, &neighbours, &mut mates, &mut marks, &mut steps)? {}
-    let chosen = mates.edges(alloc)?;
+    let chosen = chosen_edges(alloc, &mates)?;
     Ok(Matched {
         pairs: List::of(chosen),
     })
 }
-
-#[cfg(test)]
-mod tests;

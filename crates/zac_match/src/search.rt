@@ -1,35 +1,22 @@
 //! The search for augmenting paths.
 
-ghost use Rattle.std.specs.Prelude.{ℕ, ◌≡◌, ◌+◌, ◌<◌, ◌≤◌, ◌^◌, Bool, List, None, Some, length, IfOk, IfSome, IfNone, OnOk, MatchBool, vec_len};
+ghost use Rattle.std.specs.Prelude.{ℕ, ◌≡◌, ◌+◌, ◌<◌, ◌≤◌, ◌^◌, Bool, List, None, Some, true, length, IfOk, IfSome, IfNone, OnOk, MatchBool, vec_len};
 ghost use Rattle.std.specs.List.{Contains};
 ghost use Rattle.zac_match.specs.Chains.{AreChained};
 ghost use Rattle.zac_match.specs.Choice.{EndsBelow};
-ghost use Rattle.zac_match.specs.Pairing.{mate, IsPairing, AreEdges, free_count, IsMarked, IsClosed};
-ghost use Rattle.zac_match.specs.Tree.{IsTree, HasEdges, IsSearch, Closes, Visits, left_at, unmarked_count};
+ghost use Rattle.zac_pairing.specs.Pairing.{mate, free_count};
+ghost use Rattle.zac_match.specs.Cover.{is_edge, IsMarked, IsClosed};
+ghost use Rattle.zac_pairing.specs.Tree.{AllPass, HasPairs, IsTree, left_at};
+ghost use Rattle.zac_match.specs.Search.{IsSearch, Closes, Visits, unmarked_count};
 
-use crate::mates::Mates;
 use crate::neighbours::Neighbours;
 use std::alloc::AllocError;
-
-/// A left vertex that a search reached, and the step from whose vertex it was reached; the root
-/// names itself.
-#[derive(Clone, Copy)]
-pub struct Step {
-    pub left: u32,
-    pub from: usize,
-}
-
-/// Where an augmenting path ends: a right vertex with no mate, reached from the vertex of a step.
-#[derive(Clone, Copy)]
-pub struct End {
-    pub from: usize,
-    pub right: u32,
-}
+use zac_pairing::{End, Pairing, Step, flip};
 
 /// Looks at a right vertex from the vertex of one step: is it unmarked, with no mate? If it has a
 /// mate, it is marked, and the mate is added to the steps.
 fn visit(
-    mates: &Mates,
+    mates: &Pairing,
     marks: &mut Vec<bool>,
     steps: &mut Vec<Step>,
     right: u32,
@@ -62,7 +49,7 @@ fn visit(
 fn expand(
     pairs: &[(u32, u32)],
     neighbours: &Neighbours,
-    mates: &Mates,
+    mates: &Pairing,
     marks: &mut Vec<bool>,
     steps: &mut Vec<Step>,
     from: usize,
@@ -71,7 +58,6 @@ fn expand(
     requires chained { AreChained pairs.now neighbours.now.last.items neighbours.now.before.items
         (length pairs.now) }
     requires in_range { EndsBelow (vec_len mates.now.left) (vec_len mates.now.right) pairs.now }
-    requires pairing { IsPairing mates.now.left.items mates.now.right.items }
     requires marks_len { vec_len marks.old ≡ vec_len mates.now.right }
     requires last_len { vec_len neighbours.now.last ≡ vec_len mates.now.left }
     requires before_len { vec_len neighbours.now.before ≡ length pairs.now }
@@ -90,7 +76,8 @@ fn expand(
     ensures marks_stay { OnOk result ((v : ℕ) → IsMarked marks.old.items v →
         IsMarked marks.new.items v) }
     ensures found { IfOk result (λ end. IfSome end (λ v.
-        Contains pairs.now (left_at steps.old.items from, v)
+        (is_edge pairs.now (left_at steps.old.items from) v ≡ true)
+        × (v < vec_len mates.now.right)
         × (mate mates.now.right.items v ≡ None))) }
     ensures failed { IfOk result (λ end. IfNone end ((v : ℕ) →
         Contains pairs.now (left_at steps.old.items from, v) → IsMarked marks.new.items v)) }
@@ -112,7 +99,7 @@ fn expand(
 fn search(
     pairs: &[(u32, u32)],
     neighbours: &Neighbours,
-    mates: &Mates,
+    mates: &Pairing,
     marks: &mut Vec<bool>,
     steps: &mut Vec<Step>,
     root: u32,
@@ -120,7 +107,6 @@ fn search(
     requires chained { AreChained pairs.now neighbours.now.last.items neighbours.now.before.items
         (length pairs.now) }
     requires in_range { EndsBelow (vec_len mates.now.left) (vec_len mates.now.right) pairs.now }
-    requires pairing { IsPairing mates.now.left.items mates.now.right.items }
     requires marks_len { vec_len marks.old ≡ vec_len mates.now.right }
     requires last_len { vec_len neighbours.now.last ≡ vec_len mates.now.left }
     requires before_len { vec_len neighbours.now.before ≡ length pairs.now }
@@ -130,9 +116,10 @@ fn search(
     ensures tree { IfOk result (λ end. IfSome end (λ e.
         IsTree mates.now.left.items steps.new.items (length steps.new.items))) }
     ensures edges { IfOk result (λ end. IfSome end (λ e.
-        HasEdges pairs.now mates.now.left.items steps.new.items (length steps.new.items))) }
+        HasPairs (is_edge pairs.now) mates.now.left.items steps.new.items (length steps.new.items))) }
     ensures end { IfOk result (λ end. IfSome end (λ e. (e.from < length steps.new.items)
-        × Contains pairs.now (left_at steps.new.items e.from, e.right)
+        × (is_edge pairs.now (left_at steps.new.items e.from) e.right ≡ true)
+        × (e.right < vec_len mates.now.right)
         × (mate mates.now.right.items e.right ≡ None))) }
     ensures failed { IfOk result (λ end. IfNone end
         (Closes pairs.now mates.now.left.items mates.now.right.items marks.old.items
@@ -153,43 +140,12 @@ fn search(
     Ok(None)
 }
 
-/// Flips the path from the root to the end: each left vertex on it takes the right vertex that
-/// comes after it.
-fn augment(mates: &mut Mates, steps: &[Step], end: End)
-    requires pairing { IsPairing mates.old.left.items mates.old.right.items }
-    requires tree { IsTree mates.old.left.items steps.now (length steps.now) }
-    requires from_in { end.from < length steps.now }
-    requires right_in { end.right < vec_len mates.old.right }
-    requires free { mate mates.old.right.items end.right ≡ None }
-    ensures pairing { IsPairing mates.new.left.items mates.new.right.items }
-    ensures left_len { vec_len mates.new.left ≡ vec_len mates.old.left }
-    ensures right_len { vec_len mates.new.right ≡ vec_len mates.old.right }
-    ensures grown { free_count mates.new.left.items + 1 ≡ free_count mates.old.left.items }
-    ensures edges { (given : List (ℕ × ℕ)) → AreEdges given mates.old.left.items →
-        HasEdges given mates.old.left.items steps.now (length steps.now) →
-        Contains given (left_at steps.now end.from, end.right) →
-        AreEdges given mates.new.left.items }
-{
-    let mut at = end.from;
-    let mut right = end.right;
-    loop {
-        let step = steps[at];
-        match mates.attach(step.left, right) {
-            None => return,
-            Some(before) => {
-                right = before;
-                at = step.from;
-            }
-        }
-    }
-}
-
 /// Searches from one left vertex, if it has no mate, and flips the path that it finds. It answers
 /// whether it found one.
 fn grow(
     pairs: &[(u32, u32)],
     neighbours: &Neighbours,
-    mates: &mut Mates,
+    mates: &mut Pairing,
     marks: &mut Vec<bool>,
     steps: &mut Vec<Step>,
     root: u32,
@@ -197,20 +153,18 @@ fn grow(
     requires chained { AreChained pairs.now neighbours.now.last.items neighbours.now.before.items
         (length pairs.now) }
     requires in_range { EndsBelow (vec_len mates.old.left) (vec_len mates.old.right) pairs.now }
-    requires pairing { IsPairing mates.old.left.items mates.old.right.items }
-    requires edges { AreEdges pairs.now mates.old.left.items }
+    requires edges { AllPass (is_edge pairs.now) mates.old.left.items }
     requires marks_len { vec_len marks.old ≡ vec_len mates.old.right }
     requires last_len { vec_len neighbours.now.last ≡ vec_len mates.old.left }
     requires before_len { vec_len neighbours.now.before ≡ length pairs.now }
     requires root_in { root < vec_len mates.old.left }
-    ensures pairing { IsPairing mates.new.left.items mates.new.right.items }
-    ensures edges { AreEdges pairs.now mates.new.left.items }
+    ensures edges { AllPass (is_edge pairs.now) mates.new.left.items }
     ensures left_len { vec_len mates.new.left ≡ vec_len mates.old.left }
     ensures right_len { vec_len mates.new.right ≡ vec_len mates.old.right }
     ensures marks_len { vec_len marks.new ≡ vec_len marks.old }
     ensures outcome { IfOk result (λ grown. MatchBool grown
-        (free_count mates.new.left.items < free_count mates.old.left.items)
-        ((free_count mates.new.left.items ≡ free_count mates.old.left.items)
+        (free_count mates.new.right.items < free_count mates.old.right.items)
+        ((free_count mates.new.right.items ≡ free_count mates.old.right.items)
         × (IsClosed pairs.now mates.old.left.items mates.old.right.items marks.old.items root →
         IsClosed pairs.now mates.new.left.items mates.new.right.items marks.new.items
         (root + 1)))) }
@@ -221,7 +175,7 @@ fn grow(
     match search(pairs, neighbours, mates, marks, steps, root)? {
         None => Ok(false),
         Some(end) => {
-            augment(mates, steps, end);
+            flip(mates, steps, end);
             Ok(true)
         }
     }
@@ -233,26 +187,24 @@ fn grow(
 pub fn pass(
     pairs: &[(u32, u32)],
     neighbours: &Neighbours,
-    mates: &mut Mates,
+    mates: &mut Pairing,
     marks: &mut Vec<bool>,
     steps: &mut Vec<Step>,
 ) -> Result<bool, AllocError>
     requires chained { AreChained pairs.now neighbours.now.last.items neighbours.now.before.items
         (length pairs.now) }
     requires in_range { EndsBelow (vec_len mates.old.left) (vec_len mates.old.right) pairs.now }
-    requires pairing { IsPairing mates.old.left.items mates.old.right.items }
-    requires edges { AreEdges pairs.now mates.old.left.items }
+    requires edges { AllPass (is_edge pairs.now) mates.old.left.items }
     requires marks_len { vec_len marks.old ≡ vec_len mates.old.right }
     requires last_len { vec_len neighbours.now.last ≡ vec_len mates.old.left }
     requires before_len { vec_len neighbours.now.before ≡ length pairs.now }
     requires left_small { vec_len mates.old.left < 2 ^ 32 }
-    ensures pairing { IsPairing mates.new.left.items mates.new.right.items }
-    ensures edges { AreEdges pairs.now mates.new.left.items }
+    ensures edges { AllPass (is_edge pairs.now) mates.new.left.items }
     ensures left_len { vec_len mates.new.left ≡ vec_len mates.old.left }
     ensures right_len { vec_len mates.new.right ≡ vec_len mates.old.right }
     ensures marks_len { vec_len marks.new ≡ vec_len marks.old }
     ensures outcome { IfOk result (λ grown. MatchBool grown
-        (free_count mates.new.left.items < free_count mates.old.left.items)
+        (free_count mates.new.right.items < free_count mates.old.right.items)
         (IsClosed pairs.now mates.new.left.items mates.new.right.items marks.new.items
         (vec_len mates.new.left))) }
 {

@@ -2,13 +2,15 @@ use Rattle.std.proofs.Common.{rules, ℕ, ◌≡◌, ◌+◌, ◌<◌, ◌≤◌
 use Rattle.std.specs.List.{Contains}
 use Rattle.std.proofs.lemmas.List.{get_or_read_under}
 use Rattle.zac_match.specs.Chains.{link, bound}
-use Rattle.zac_match.specs.Pairing.{mate}
-use Rattle.zac_match.specs.Tree.{IsSearch, Visits, left_at, unmarked_count}
-use Rattle.zac_match.proofs.TreeFacts.{step_read}
+use Rattle.zac_pairing.specs.Pairing.{mate}
+use Rattle.zac_pairing.specs.Tree.{left_at}
+use Rattle.zac_match.specs.Search.{IsSearch, Visits, unmarked_count}
+use Rattle.zac_pairing.proofs.TreeFacts.{step_read}
 use Rattle.zac_match.proofs.SearchFacts.{EdgesMarked, EdgesMarked-none, EdgesMarked-next, Contains-at, visit_keeps, visit_marks, visit_marks_stay, visit_steps_stay, visit_longer, visit_count}
 use Rattle.std.proofs.lemmas.Bool.{MatchBool-at_true, MatchBool-at_false}
-use Rattle.zac_match.specs.declared.search.Step.{Step}
+use Rattle.zac_pairing.specs.declared.tree.Step.{Step}
 use Rattle.zac_match.proofs.ChainFacts.{bound_before}
+use Rattle.zac_match.proofs.CoverFacts.{is_edge-from_Contains}
 use Rattle.zac_match.proofs.search.expand.Goals as goal
 
 pub loop-edge-init : goal.loop-edge-init
@@ -48,6 +50,16 @@ returns-then-branch-clause-keeps c =
     let Q : List Step → Type 0 = λ s. IsSearch c.args.pairs.now c.args.mates.now.left.items c.args.mates.now.right.items before c.loop-edge.marks.items s in
     subst P (sym same.1) (subst Q (sym same.2) was)
 
+pub returns-then-branch-clause-found : goal.returns-then-branch-clause-found
+returns-then-branch-clause-found c =
+    let pairs = c.args.pairs.now in
+    let number = c.in-Some.number in
+    let left = left_at c.args.steps.now.items c.args.from in
+    let here = c.loop-edge.invariant.chain number c.in-Some.is in
+    let free : (mate c.args.mates.now.right.items (get_or pairs number (0, 0)).1 ≡ None) × (c.visit.new.marks.items ≡ c.loop-edge.marks.items) × (c.visit.new.steps.items ≡ c.loop-edge.steps.items) =
+    MatchBool-at_true _ _ c.if-branch.true c.in_ok-visit.ensures.outcome in
+    (is_edge-from_Contains pairs left (get_or pairs number (0, 0)).1 (Contains-at pairs number left here.0 (here.1 ∙ c.loop-edge.invariant.left_is)), (c.requires.in_range.each number (0, 0) here.0).1, free.0)
+
 pub loop-edge-smaller : goal.loop-edge-smaller
 loop-edge-smaller c =
     let number = c.in-Some.number in
@@ -83,7 +95,7 @@ loop-edge-preserved c =
     let count : unmarked_count c.visit.new.marks.items + length c.visit.new.steps.items ≡ unmarked_count c.loop-edge.marks.items + length c.loop-edge.steps.items = visit_count right v c.args.from c.loop-edge.marks.items c.visit.new.marks.items c.loop-edge.steps.items c.visit.new.steps.items v_in visits in
     record {
       marks_len = search rules;
-      keeps = λ before h. visit_keeps pairs left right before c.loop-edge.marks.items c.visit.new.marks.items c.loop-edge.steps.items c.visit.new.steps.items c.args.from v c.requires.pairing from_in (subst E (sym from_stays) edge) v_in visits (old.keeps before h);
+      keeps = λ before h. visit_keeps pairs left right before c.loop-edge.marks.items c.visit.new.marks.items c.loop-edge.steps.items c.visit.new.steps.items c.args.from v c.args.mates.now.pairing from_in (subst E (sym from_stays) edge) v_in visits (old.keeps before h);
       count = search rules;
       longer = search rules;
       steps_stay = λ j h. visit_steps_stay right v c.args.from c.loop-edge.marks.items c.visit.new.marks.items c.loop-edge.steps.items c.visit.new.steps.items visits j (search rules) ∙ old.steps_stay j h;

@@ -1,8 +1,9 @@
 use Rattle.std.proofs.Common.{ℕ, ◌≡◌, ◌+◌, ◌<◌, ◌≤◌, Bool, List, Some, length, vec_len}
 use Rattle.zac_match.specs.Chains.{left_end, bound}
-use Rattle.zac_match.specs.Pairing.{IsMarked}
+use Rattle.zac_match.specs.Cover.{IsMarked}
 use Rattle.zac_match.proofs.SearchFacts.{EdgesMarked}
-use Rattle.zac_match.specs.Tree.{IsSearch, left_at, unmarked_count}
+use Rattle.zac_pairing.specs.Tree.{left_at}
+use Rattle.zac_match.specs.Search.{IsSearch, unmarked_count}
 use Rattle.zac_match.proofs.search.expand.Given as goal
 
 abbrev pub invariant-loop-edge : goal.invariant-loop-edge

@@ -2,8 +2,9 @@ use Rattle.std.proofs.Common.{rules, ℕ, ◌≡◌, ◌+◌, ◌<◌, ◌≤◌
 use Rattle.std.specs.List.{Contains}
 use Rattle.std.proofs.lemmas.Option.{MatchOption-at_none}
 use Rattle.std.proofs.lemmas.Bool.{cases_eq}
-use Rattle.zac_match.specs.Pairing.{IsMarked}
-use Rattle.zac_match.specs.Tree.{left_at, unmarked_count}
+use Rattle.zac_match.specs.Cover.{IsMarked}
+use Rattle.zac_pairing.specs.Tree.{left_at}
+use Rattle.zac_match.specs.Search.{unmarked_count}
 use Rattle.zac_match.proofs.search.search.Goals as goal
 
 pub returns-in-Some-clause-tree : goal.returns-in-Some-clause-tree

@@ -1,7 +1,8 @@
 use Rattle.std.proofs.Common.{ℕ, ◌≡◌, ◌+◌, ◌-◌, ◌<◌, ◌≤◌, vec_len}
 use Rattle.std.specs.List.{Contains}
-use Rattle.zac_match.specs.Pairing.{IsMarked}
-use Rattle.zac_match.specs.Tree.{IsSearch, left_at, unmarked_count}
+use Rattle.zac_match.specs.Cover.{IsMarked}
+use Rattle.zac_pairing.specs.Tree.{left_at}
+use Rattle.zac_match.specs.Search.{IsSearch, unmarked_count}
 use Rattle.zac_match.proofs.search.search.Given as goal
 
 abbrev pub invariant-loop-from : goal.invariant-loop-from

@@ -1,8 +1,0 @@
-use Rattle.std.proofs.Common.{◌≡◌}
-use Rattle.zac_assign.proofs.tests.table.Given as goal
-
-abbrev pub invariant-loop-row : goal.invariant-loop-row
-invariant-loop-row l = (l.costs.rows ≡ l.rows) × (l.costs.columns ≡ l.columns)
-
-abbrev pub invariant-loop-column : goal.invariant-loop-column
-invariant-loop-column l = (l.costs.rows ≡ l.rows) × (l.costs.columns ≡ l.columns)

@@ -1,0 +1,2 @@
+pub mod PairingFacts
+pub mod TreeFacts
