@@ -8,3 +8,4 @@ mod Finding
 mod Roots
 pub mod Geometry
 pub mod Spacing
+mod Broken

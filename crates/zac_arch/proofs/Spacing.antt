@@ -10,6 +10,7 @@ use Rattle.zac_arch.specs.declared.card.ZoneKind.{ZoneKind}
 use Rattle.zac_arch.specs.declared.card.ZoneKind.TheVariants.{Storage, Entangling}
 use Rattle.zac_arch.specs.Distances.{difference, IsFarther}
 use Rattle.zac_arch.specs.Architecture.{Architecture, StandsAt, IsInZone, traps_per_place, zone_traps}
+use Rattle.zac_arch.specs.Parking.{IsCorner, IsParkedBeside}
 use Rattle.zac_arch.specs.Rules.{KeepsRules}
 use Rattle.zac_arch.proofs.Grid.{InGrid, InBox, in_box, at_place, point_at}
 use Rattle.zac_arch.proofs.Zones.{locate, count, count-cons, kind_cases, stands_at_place}
@@ -196,6 +197,35 @@ parked_far a h t u p q p' s r b parked =
       | inr ne ↦
           spots_far a h t u p q p' q ne s r b (itself a.figures.park q)
     ]
+
+corner_beyond : (park : ℕ) (p q : Point) → IsCorner park p q → IsBeyond park p q
+corner_beyond park p q c = record {
+  left = elim c.along_x as (λ _. p.x ≤ q.x) [ inl e ↦ omega arith | inr e ↦ omega arith ];
+  right = elim c.along_x as (λ _. q.x ≤ p.x + park) [ inl e ↦ omega arith | inr e ↦ omega arith ];
+  bottom = elim c.along_y as (λ _. p.y ≤ q.y) [ inl e ↦ omega arith | inr e ↦ omega arith ];
+  top = elim c.along_y as (λ _. q.y ≤ p.y + park) [ inl e ↦ omega arith | inr e ↦ omega arith ];
+}
+
+-- the corners at two traps are out of reach of each other
+pub corners_far : (a : Architecture) → KeepsRules a → (t u : ℕ) (p q r s : Point) → t ≢ u → StandsAt a t p → StandsAt a u q → IsCorner a.figures.park p r → IsCorner a.figures.park q s → IsFarther a.figures.reach r s
+corners_far a h t u p q r s ne tp uq pr qs =
+    spots_far a h t u p q r s ne tp uq (corner_beyond a.figures.park p r pr) (corner_beyond a.figures.park q s qs)
+
+parked_axis : (park : ℕ) (p q : Point) → IsParkedBeside park p q → (q.x ≡ p.x + park) ⊎ (q.y ≡ p.y + park)
+parked_axis park p q k =
+    elim k.corner.along_x as (λ _. (q.x ≡ p.x + park) ⊎ (q.y ≡ p.y + park)) [
+      | inl x ↦
+          elim k.corner.along_y as (λ _. (q.x ≡ p.x + park) ⊎ (q.y ≡ p.y + park)) [
+            | inl y ↦ absurd (k.elsewhere (same_coordinates q p x y))
+            | inr y ↦ inr y
+          ]
+      | inr x ↦ inl x
+    ]
+
+-- a point beside a trap is out of reach of every trap
+pub parked_beside_far : (a : Architecture) → KeepsRules a → (t u : ℕ) (p q r : Point) → StandsAt a t p → StandsAt a u q → IsParkedBeside a.figures.park p r → IsFarther a.figures.reach r q
+parked_beside_far a h t u p q r tp uq k =
+    parked_far a h t u p q r tp uq (corner_beyond a.figures.park p r k.corner) (parked_axis a.figures.park p r k)
 
 -- the number of a trap's zone
 count_take-le : (zs : List Zone) (m n : ℕ) → m ≤ n → count (take m zs) ≤ count (take n zs)

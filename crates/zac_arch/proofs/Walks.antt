@@ -1,12 +1,12 @@
 -- What a walk over the zones of a card reads: the zone at a number, and the counts so far.
-use Rattle.std.proofs.Common.{◌≡◌, ℕ, zero, suc, ◌+◌, ◌*◌, ◌/◌, ◌%◌, ◌<◌, ◌≤◌, inl, inr, not, cond, count_by, ◌-◌, Some, List, [], ◌∷◌, length, take, get_or, slice_get, flat_map, sum_by, refl, sym, ap, subst, ◌∙◌, Fits, w32, arith, length-append}
-use Rattle.std.proofs.lemmas.Bool.{cases_eq}
+use Rattle.std.proofs.Common.{◌≡◌, true, ℕ, zero, suc, ◌+◌, ◌*◌, ◌/◌, ◌%◌, ◌<◌, ◌≤◌, inl, inr, not, cond, count_by, ◌-◌, Some, List, [], ◌∷◌, length, take, get_or, slice_get, flat_map, sum_by, refl, sym, ap, subst, ◌∙◌, arith, length-append}
+use Rattle.std.proofs.lemmas.Bool.{cases_eq, false≢true}
 use Rattle.std.proofs.lemmas.Option.{slice_get-get_or}
 use Rattle.std.proofs.lemmas.Nat.{div_below, mod_below, div-add-mod', mul-le}
 use Rattle.std.proofs.lemmas.List.{take_more, take_all}
 use Rattle.std.proofs.lemmas.List.Concat.{flat_map-append}
 use Rattle.std.proofs.lemmas.List.Folds.{length-flat_map-take}
-use Rattle.std.proofs.lemmas.List.Sums.{sum_by-cons, sum_by_more_le}
+use Rattle.std.proofs.lemmas.List.Sums.{sum_by-cons}
 use Rattle.zac_arch.specs.declared.place.Point.{Point}
 use Rattle.zac_arch.specs.declared.card.Zone.{Zone}
 use Rattle.zac_arch.specs.declared.card.ZoneKind.{ZoneKind}
@@ -14,7 +14,7 @@ use Rattle.zac_arch.specs.declared.card.ZoneKind.TheVariants.{Storage, Entanglin
 use Rattle.zac_arch.specs.Architecture.{Architecture, StandsAt, is_storage, traps_per_place, zone_traps, zone_sites, trap_count, storage_count, site_count, traps_before, last_x, last_y, IsTrapOf}
 use Rattle.zac_arch.specs.Rules.{KeepsRules}
 use Rattle.zac_arch.proofs.Grid.{in_box, at_place, in_grid, point_at, length-zone_traps}
-use Rattle.zac_arch.proofs.Zones.{count, count-cons, count_is, storage_zones, storage_first, entangling_first, kind_cases, stands_at_place}
+use Rattle.zac_arch.proofs.Zones.{count, count-cons, count_is, storage_zones, storage_first, entangling_first, storage_length, kind_cases, stands_at_place}
 use Rattle.zac_arch.proofs.Ranges.{zone_rules, site_rules, no_pair}
 use Rattle.zac_arch.proofs.Geometry.{few_parts, storage_count_most, site_count_most}
 
@@ -48,17 +48,15 @@ storage_sum (z ∷ zs) =
       | inr e ↦ omega (arith, storage_sum zs, ap count (entangling_first z zs e), sum_by-cons storage_part z zs, ap (λ k. cond (is_storage k) (length (zone_traps z)) 0) e)
     ]
 
-pub storage_sum_fits : (a : Architecture) → KeepsRules a → (zs : List Zone) → zs ≡ a.zones → (k : ℕ) (d : Zone) → k < length zs → Fits w32 (sum_by storage_part (take k zs) + storage_part (get_or zs k d))
-storage_sum_fits a h zs e k d lt =
-    omega (arith, sum_by_more_le storage_part zs k d lt, storage_sum zs, ap (λ ys. count (storage_zones ys)) e, storage_count_most a h)
+pub storage_total : (zs : List Zone) (k n : ℕ) → length zs ≤ k → n ≡ sum_by storage_part (take k zs) → n ≡ count (storage_zones zs)
+storage_total zs k n le is = is ∙ ap (sum_by storage_part) (take_all k zs le) ∙ sym (storage_sum zs)
 
-pub storage_total : (a : Architecture) (zs : List Zone) → zs ≡ a.zones → (k n : ℕ) → length zs ≤ k → n ≡ sum_by storage_part (take k zs) → n ≡ storage_count a
-storage_total a zs e k n le is =
-    is ∙ ap (sum_by storage_part) (take_all k zs le) ∙ sym (storage_sum zs) ∙ ap (λ ys. count (storage_zones ys)) e
-
-pub site_sum_fits : (a : Architecture) → KeepsRules a → (zs : List Zone) → zs ≡ a.zones → (k : ℕ) (d : Zone) → k < length zs → Fits w32 (sum_by zone_sites (take k zs) + zone_sites (get_or zs k d))
-site_sum_fits a h zs e k d lt =
-    omega (arith, sum_by_more_le zone_sites zs k d lt, ap (sum_by zone_sites) e, site_count_most a h)
+pub storage_places : (z : Zone) → is_storage z.kind ≡ true → z.rows * z.columns ≡ length (zone_traps z)
+storage_places z is =
+    elim (kind_cases z.kind) as (λ _. z.rows * z.columns ≡ length (zone_traps z)) [
+      | inl e ↦ sym (storage_length z e)
+      | inr e ↦ absurd (false≢true (sym (ap is_storage e) ∙ is))
+    ]
 
 width_least : (k : ZoneKind) → 0 < traps_per_place k
 width_least Storage = omega arith

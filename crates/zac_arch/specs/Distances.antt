@@ -2,20 +2,20 @@
 use Rattle.std.specs.Prelude.{ℕ, ◌+◌, ◌-◌, ◌*◌, ◌^◌, ◌<◌, ◌≤◌}
 use Rattle.zac_arch.specs.declared.place.Point.{Point}
 
--- how far two numbers are apart
+-- How far two numbers are apart.
 abbrev pub difference : ℕ → ℕ → ℕ
 difference m n = (m - n) + (n - m)
 
--- the square of the distance of two points
+-- The square of the distance of two points.
 abbrev pub squared_distance : Point → Point → ℕ
 squared_distance p q =
     difference p.x q.x * difference p.x q.x + difference p.y q.y * difference p.y q.y
 
--- at most d apart
+-- Two points are at most this far apart.
 abbrev pub IsWithin : ℕ → Point → Point → Type 0
 IsWithin d p q = squared_distance p q ≤ d * d
 
--- farther than d apart
+-- Two points are farther apart than this.
 abbrev pub IsFarther : ℕ → Point → Point → Type 0
 IsFarther d p q = d * d < squared_distance p q
 
@@ -25,7 +25,7 @@ IsFarther d p q = d * d < squared_distance p q
 abbrev pub IsTimeEnough : ℕ → ℕ → ℕ → ℕ → Type 0
 IsTimeEnough accel dx dy t = (dx * dx + dy * dy) * 10 ^ 22 ≤ accel * accel * (t * t * (t * t))
 
--- the least time that is enough
+-- The time is enough, and no lesser time is.
 pub record IsMoveTime (accel dx dy t : ℕ) : Type 0 where
   pub enough : IsTimeEnough accel dx dy t
   pub least : (s : ℕ) → IsTimeEnough accel dx dy s → t ≤ s

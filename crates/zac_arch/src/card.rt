@@ -1,15 +1,18 @@
 //! The card of a machine: its figures and its zones.
 
-ghost use Rattle.std.specs.Prelude.{◌≡◌, ◌+◌, ◌*◌, ◌<◌, ◌≤◌, ◌↔◌, ℕ, IsTrue, IfOk, Some, MatchOption, length};
-ghost use Rattle.zac_arch.specs.Architecture.{trap_count, traps_before, storage_count, site_count, StandsAt, left_trap, right_trap, IsTrapOf, IsInZone, IsLit};
+ghost use Rattle.std.specs.Prelude.{◌≡◌, ◌+◌, ◌*◌, ◌<◌, ◌≤◌, ◌↔◌, ℕ, IsTrue, IfOk, Some, MatchOption, MatchResult, length, [], ◌∷◌};
+ghost use Rattle.zac_arch.specs.Architecture.{is_storage, trap_count, traps_before, storage_count, site_count, StandsAt, left_trap, right_trap, IsTrapOf, IsInZone, IsLit};
 ghost use Rattle.zac_arch.specs.Distances.{IsMoveTime};
-ghost use Rattle.zac_arch.specs.Rules.{KeepsRules, HasFigureRanges};
-ghost use Rattle.zac_arch.specs.Tiny.{tiny_architecture};
+ghost use Rattle.zac_arch.specs.Rules.{KeepsRules, HasFigureRanges, IsLeastBroken, passes_pairs, stands_in_order};
+ghost use Rattle.zac_arch.specs.Tiny.{built_in_figures, tiny_architecture};
+ghost use Rattle.zac_arch.specs.Standard.{standard_architecture};
 
+use crate::Memory;
+use crate::counts::{sites_in, storage_traps_in};
 use crate::duration::least_time;
-use crate::memory::Memory;
 use crate::place::{Point, SiteId, TrapId};
-use crate::zone_grid::{is_lit_by, place_at, point_in, sites_of, storage_traps_of, traps_of};
+use crate::rules::least_broken_rule;
+use crate::zone_grid::{is_lit_by, place_at, point_in, traps_of};
 use std::alloc::Global;
 use std::marker::Model;
 
@@ -54,6 +57,18 @@ pub enum ZoneKind {
     Entangling,
 }
 
+impl ZoneKind {
+    /// Whether atoms rest there.
+    pub(crate) fn is_for_storage(self) -> bool
+        ensures { result ≡ is_storage self }
+    {
+        match self {
+            ZoneKind::Storage => true,
+            ZoneKind::Entangling => false,
+        }
+    }
+}
+
 /// A zone: a grid of traps, or of sites with two traps each.
 #[derive(Clone, Copy, Debug, PartialEq, Eq)]
 pub struct Zone {
@@ -95,30 +110,63 @@ impl Model for Card {
     ghost invariant = { λ c. KeepsRules (record { figures = c.figures; zones = c.zones.items }) };
 }
 
+/// The figures of the built-in cards, with so many beams of an AOD.
+fn figures_with(rows: u8, columns: u8) -> Figures
+    ensures { result ≡ built_in_figures rows columns }
+{
+    Figures {
+        gap: 10,
+        park: 10,
+        reach: 5,
+        radius: 60,
+        accel: 2750,
+        activate: 15_000,
+        deactivate: 15_000,
+        one: 52_000,
+        pulse: 360,
+        readout: 1_000_000,
+        aods: 2,
+        rows,
+        columns,
+    }
+}
+
+/// A storage zone and an entangling zone.
+fn two_zones(alloc: Global, storage: Zone, entangling: Zone) -> Result<Vec<Zone>, Memory>
+    ensures { IfOk result (λ zones. zones.items ≡ storage ∷ entangling ∷ []) }
+{
+    let mut zones = Vec::with_capacity(alloc, 2)?;
+    zones.push(storage)?;
+    zones.push(entangling)?;
+    Ok(zones)
+}
+
 impl Card {
+    /// The card of these figures and zones.
+    ///
+    /// The error is the number of the least rule that they break:
+    /// 1, the numbers of zones, storage traps and sites; 2, the parking of beams; 3, the room between
+    /// neighbouring traps; 4, the blockade; 5, the distance of zones; 6, the extent of the field; 7, the ranges
+    /// of the numbers.
+    pub fn new(figures: Figures, zones: Vec<Zone>) -> Result<Card, u8>
+        requires storage_first { IsTrue (passes_pairs stands_in_order zones.items) }
+        ensures { MatchResult result
+            (λ c. (c ≡ record { figures = figures; zones = zones.items }) × KeepsRules (record { figures = figures; zones = zones.items }))
+            (λ n. IsLeastBroken (record { figures = figures; zones = zones.items }) n) }
+    {
+        match least_broken_rule(figures, zones.as_slice()) {
+            Some(rule) => Err(rule),
+            None => Ok(Card { figures, zones }),
+        }
+    }
+
     /// The tiny card: four storage traps in a row, and two sites in a row above them.
     ///
     /// It has two AODs of four rows and four columns.
     pub fn tiny(alloc: Global) -> Result<Card, Memory>
         ensures { IfOk result (λ c. c ≡ tiny_architecture) }
     {
-        let figures = Figures {
-            gap: 10,
-            park: 10,
-            reach: 5,
-            radius: 60,
-            accel: 2750,
-            activate: 15_000,
-            deactivate: 15_000,
-            one: 52_000,
-            pulse: 360,
-            readout: 1_000_000,
-            aods: 2,
-            rows: 4,
-            columns: 4,
-        };
-        let mut zones = Vec::with_capacity(alloc, 2)?;
-        zones.push(Zone {
+        let storage = Zone {
             kind: ZoneKind::Storage,
             x: 0,
             y: 0,
@@ -127,8 +175,8 @@ impl Card {
             pair: 0,
             columns: 4,
             rows: 1,
-        })?;
-        zones.push(Zone {
+        };
+        let entangling = Zone {
             kind: ZoneKind::Entangling,
             x: 0,
             y: 100,
@@ -137,8 +185,45 @@ impl Card {
             pair: 20,
             columns: 2,
             rows: 1,
-        })?;
-        Ok(Card { figures, zones })
+        };
+        let zones = two_zones(alloc, storage, entangling)?;
+        Ok(Card {
+            figures: figures_with(4, 4),
+            zones,
+        })
+    }
+
+    /// The standard card: 10,000 storage traps in a square, and 140 sites above them.
+    ///
+    /// It has two AODs of 64 rows and 64 columns.
+    pub fn standard(alloc: Global) -> Result<Card, Memory>
+        ensures { IfOk result (λ c. c ≡ standard_architecture) }
+    {
+        let storage = Zone {
+            kind: ZoneKind::Storage,
+            x: 0,
+            y: 0,
+            dx: 30,
+            dy: 30,
+            pair: 0,
+            columns: 100,
+            rows: 100,
+        };
+        let entangling = Zone {
+            kind: ZoneKind::Entangling,
+            x: 0,
+            y: 3070,
+            dx: 120,
+            dy: 100,
+            pair: 20,
+            columns: 20,
+            rows: 7,
+        };
+        let zones = two_zones(alloc, storage, entangling)?;
+        Ok(Card {
+            figures: figures_with(64, 64),
+            zones,
+        })
     }
 
     /// The figures.
@@ -169,24 +254,14 @@ impl Card {
     pub fn storage_traps(&self) -> u32
         ensures { result ≡ storage_count self.now }
     {
-        let zones = self.ruled_zones();
-        let mut count = 0;
-        for zone in zones {
-            count += storage_traps_of(*zone);
-        }
-        count
+        storage_traps_in(self.ruled_zones()) as u32
     }
 
     /// How many sites there are: 1 to 1,024.
     pub fn sites(&self) -> u32
         ensures { result ≡ site_count self.now }
     {
-        let zones = self.ruled_zones();
-        let mut count = 0;
-        for zone in zones {
-            count += sites_of(*zone);
-        }
-        count
+        sites_in(self.ruled_zones()) as u32
     }
 
     /// How many traps there are: those of storage, and two of each site.

@@ -4,6 +4,7 @@ ghost use Rattle.std.specs.Prelude.{◌≡◌, ℕ, ◌+◌, ◌*◌, ◌<◌, �
 ghost use Rattle.zac_arch.specs.declared.place.Point.{Point};
 ghost use Rattle.zac_arch.specs.Architecture.{trap_count, storage_count, site_count, StandsAt, left_trap, right_trap, IsTrapOf, IsLit};
 ghost use Rattle.zac_arch.specs.Distances.{IsWithin, IsFarther};
+ghost use Rattle.zac_arch.specs.Parking.{IsCorner, IsParkedBeside};
 
 use crate::card::Card;
 
@@ -28,6 +29,20 @@ pub fn laws_of_traps(card: &Card)
     ensures one_site { (s r t u : ℕ) → (p q : Point)
         → IsTrapOf card.now s t → IsTrapOf card.now r u → StandsAt card.now t p → StandsAt card.now u q
         → IsWithin card.now.figures.radius p q → s ≡ r }
+{
+    let _rules = card.figures();
+}
+
+/// Where beams come to rest at traps and beside them: no two such points of different traps are within reach of
+/// each other, and no point beside a trap is within reach of any trap.
+pub fn laws_of_parking(card: &Card)
+    ensures corners_apart { (t u : ℕ) → (p q r s : Point) → t ≢ u
+        → StandsAt card.now t p → StandsAt card.now u q
+        → IsCorner card.now.figures.park p r → IsCorner card.now.figures.park q s
+        → IsFarther card.now.figures.reach r s }
+    ensures parked_apart { (t u : ℕ) → (p q r : Point)
+        → StandsAt card.now t p → StandsAt card.now u q
+        → IsParkedBeside card.now.figures.park p r → IsFarther card.now.figures.reach r q }
 {
     let _rules = card.figures();
 }

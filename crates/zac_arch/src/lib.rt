@@ -5,16 +5,14 @@
 #![tactic(auto)]
 
 pub mod card;
+mod counts;
 mod duration;
 mod laws;
-pub mod memory;
 pub mod place;
+mod rules;
 mod zone_grid;
 
 pub use card::{Card, Figures, Zone, ZoneKind};
-pub use laws::laws_of_traps;
-pub use memory::Memory;
+pub use laws::{laws_of_parking, laws_of_traps};
 pub use place::{Point, SiteId, TrapId, within};
-
-#[cfg(test)]
-mod tests;
+pub use zac_memory::Memory;

@@ -1,7 +1,7 @@
 //! The traps of one zone, by arithmetic on its grid.
 
-ghost use Rattle.std.specs.Prelude.{◌≡◌, ℕ, ◌+◌, ◌*◌, ◌<◌, ◌≤◌, ◌^◌, ◌↔◌, IsTrue, Some, MatchOption, length, slice_get, if◌then◌else◌};
-ghost use Rattle.zac_arch.specs.Architecture.{is_storage, traps_per_place, zone_traps, zone_sites, last_x, last_y, IsInWidenedBox};
+ghost use Rattle.std.specs.Prelude.{◌≡◌, ℕ, ◌+◌, ◌*◌, ◌<◌, ◌≤◌, ◌^◌, ◌↔◌, IsTrue, Some, MatchOption, length, slice_get};
+ghost use Rattle.zac_arch.specs.Architecture.{traps_per_place, zone_traps, last_x, last_y, IsInWidenedBox};
 
 use crate::card::{Zone, ZoneKind};
 use crate::place::Point;
@@ -22,28 +22,6 @@ pub(crate) fn traps_of(z: Zone) -> u32
     ensures { result ≡ length (zone_traps z) }
 {
     z.rows * z.columns * traps_at_place(z.kind)
-}
-
-/// How many storage traps a zone has.
-pub(crate) fn storage_traps_of(z: Zone) -> u32
-    requires { length (zone_traps z) < 2 ^ 32 }
-    ensures { result ≡ (if is_storage z.kind then length (zone_traps z) else 0) }
-{
-    match z.kind {
-        ZoneKind::Storage => traps_of(z),
-        ZoneKind::Entangling => 0,
-    }
-}
-
-/// How many sites a zone has.
-pub(crate) fn sites_of(z: Zone) -> u32
-    requires { zone_sites z < 2 ^ 32 }
-    ensures { result ≡ zone_sites z }
-{
-    match z.kind {
-        ZoneKind::Storage => 0,
-        ZoneKind::Entangling => z.columns * z.rows,
-    }
 }
 
 /// Where a trap of a zone stands.

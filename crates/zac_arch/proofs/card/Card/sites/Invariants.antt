@@ -1,6 +1,0 @@
-use Rattle.std.proofs.Common.{◌≡◌, take, sum_by}
-use Rattle.zac_arch.specs.Architecture.{zone_sites}
-use Rattle.zac_arch.proofs.card.Card.sites.Given as goal
-
-abbrev pub invariant-loop-zone : goal.invariant-loop-zone
-invariant-loop-zone l = l.count ≡ sum_by zone_sites (take l.zone-index l.zones)
