@@ -2,10 +2,10 @@
 use Rattle.std.specs.Prelude.{ℕ, Bool, not, ◌&&◌, ◌==◌, nat_le, List, length}
 use Rattle.std.specs.List.{list_all}
 
--- a printable byte other than a blank, a quotation mark and a backslash
+-- The byte is from 33 to 126, and neither a quotation mark nor a backslash.
 abbrev pub is_angle_byte : ℕ → Bool
 is_angle_byte b = nat_le 33 b && nat_le b 126 && not (b == 34) && not (b == 92)
 
--- 1 to 16,384 such bytes
+-- There are 1 to 16,384 bytes, each of them an angle byte. It is the invariant of an `Angle`.
 abbrev pub is_angle : List ℕ → Bool
 is_angle bytes = nat_le 1 (length bytes) && nat_le (length bytes) 16384 && list_all is_angle_byte bytes

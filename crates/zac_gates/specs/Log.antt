@@ -5,24 +5,25 @@ use Rattle.zac_gates.specs.declared.circuit.Op.{Op}
 use Rattle.zac_gates.specs.declared.circuit.Op.TheVariants.{Fence}
 use Rattle.zac_gates.specs.Ops.{MustFollow, is_gate, is_read, is_fence}
 
--- an op that was performed: its number, and what it was
+-- An op that was performed: its number, and the op itself.
 pub record Entry : Type 0 where
   pub op : ℕ
   pub what : Op
 
--- each op of the list with its number, from n on
+-- An entry for each op of the list, numbered from this number on.
 abbrev pub entries_from : ℕ → List Op → List Entry
 entries_from n ops = map (λ (p : ℕ × Op). record { op = p.0; what = p.1 }) (enumerate_from n ops)
 
--- each op of the list but the fences, in source order
+-- An entry for each op but the fences, in source order.
 abbrev pub entries_in_order : List Op → List Entry
 entries_in_order ops = filter (λ e. not (is_fence e.what)) (entries_from 0 ops)
 
--- the gates of the list in source order, and then its reads in source order
+-- The entries of the gates in source order, and then those of the reads in source order.
 abbrev pub gates_then_reads : List Op → List Entry
 gates_then_reads ops = filter (λ e. is_gate e.what) (entries_from 0 ops) ++ filter (λ e. is_read e.what) (entries_from 0 ops)
 
--- The log, in the order in which its ops were performed, realises the list.
+-- A log realises a list of ops: each entry is an op of the list and no fence; each op but a fence has an entry; no op
+-- has two entries; and no entry stands before one that it must follow.
 pub record Realises (ops : List Op) (log : List Entry) : Type 0 where
   -- what stands in the log is an op of the list, with its content, and no fence
   pub listed : All (λ e. (slice_get ops e.op ≡ Some e.what) × (e.what ≢ Fence)) log

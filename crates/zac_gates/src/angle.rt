@@ -3,8 +3,8 @@
 ghost use Rattle.std.specs.Prelude.{◌≡◌, false, IsTrue, IfOk, MatchResult};
 ghost use Rattle.zac_gates.specs.Angle.{is_angle};
 
+use crate::Memory;
 use crate::list::{Bytes, List};
-use crate::memory::Memory;
 use std::alloc::Global;
 use std::marker::Model;
 

@@ -5,15 +5,15 @@ ghost use Rattle.std.specs.Ordering.{nat_cmp};
 ghost use Rattle.std.specs.BTreeSet.{contains};
 ghost use Rattle.zac_gates.specs.Ops.{Names, IsRead, IsInRange, IsValid, IsFirstInvalid, IsCauseOf};
 
+use crate::Memory;
 use crate::angle::Angles;
 use crate::list::List;
-use crate::memory::Memory;
 use std::alloc::Global;
 use std::collections::BTreeSet;
 use std::marker::Model;
 
 /// A native op, on qubits and bits by their numbers from 0.
-#[derive(Debug, Drop)]
+#[derive(Drop)]
 pub enum Op {
     /// A one-qubit gate, as `U` of OpenQASM 2.0 (Cross et al. 2017).
     One { q: u32, angles: Angles },
@@ -26,7 +26,7 @@ pub enum Op {
 }
 
 /// Why a list of ops is no circuit.
-#[derive(Clone, Copy, Debug, PartialEq, Eq)]
+#[derive(Clone, Copy, Debug)]
 pub enum CircuitFault {
     /// This is the first op that has a qubit or bit out of range, or the same qubit twice, or a qubit that was
     /// read.
@@ -37,7 +37,7 @@ pub enum CircuitFault {
 
 /// A circuit in native ops. Each op's qubits and bit are in range, a pair has two qubits, and no op is on a
 /// qubit that was read.
-#[derive(Debug, Drop)]
+#[derive(Drop)]
 pub struct Circuit {
     qubits: u32,
     bits: u32,

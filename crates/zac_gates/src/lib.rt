@@ -8,12 +8,8 @@ pub mod angle;
 pub mod circuit;
 pub mod laws;
 pub mod list;
-pub mod memory;
 
 pub use angle::{Angle, Angles};
 pub use circuit::{Circuit, CircuitFault, Op};
 pub use list::{Bytes, List};
-pub use memory::Memory;
-
-#[cfg(test)]
-mod tests;
+pub use zac_memory::Memory;

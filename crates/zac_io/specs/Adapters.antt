@@ -5,23 +5,24 @@ use Rattle.zac_io.specs.declared.outside.Failed.{Failed}
 use Rattle.zac_io.specs.declared.file_shelf.FileShelf.{FileShelf}
 use Rattle.zac_io.specs.declared.out_sink.OutSink.{OutSink}
 
--- how often a call on the files failed
+-- How often a call on the system's files failed.
 abbrev pub file_faults : {R F D : Type 0} → FileShelf R F D → ℕ
 file_faults shelf = shelf.faults
 
--- how often a call on the writer failed
+-- How often a call on the system's writer failed.
 abbrev pub out_faults : {W : Type 0} → OutSink W → ℕ
 out_faults sink = sink.faults
 
--- what the sink writes to
+-- The writer below a sink.
 abbrev pub writer_of : {W : Type 0} → OutSink W → W
 writer_of sink = sink.writer
 
--- the file that was picked
+-- The file that was picked, if there is one.
 abbrev pub picked_file : {R F D : Type 0} → FileShelf R F D → Option F
 picked_file shelf = shelf.picked
 
--- a read reads the picked file, where that tells its bytes, and gives none where no file is picked
+-- Where no file was picked, the answer is Ok 0. Where one was, one is picked still, and the read took the next of its
+-- bytes, where the file tells its bytes.
 abbrev pub ReadsPicked : {F : Type 0} → (F → Option (List ℕ)) → Option F → Option F → Result ℕ Failed → List ℕ → Type 0
 ReadsPicked remaining None new result buffer = result ≡ Ok 0
 ReadsPicked remaining (Some old) None result buffer = ⊥

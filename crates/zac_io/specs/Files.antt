@@ -4,23 +4,23 @@ use Rattle.std.specs.Option.{option_map}
 use Rattle.std.specs.Str.{bytes_eq}
 use Rattle.zac_io.specs.Outside.{NamedFiles}
 
--- names, and the bytes under each
+-- A list of names, each with its bytes.
 abbrev pub Pairs : Type 0
 Pairs = List (List ℕ × List ℕ)
 
--- the place of the first file of this name
+-- The place of the first file of this name, if there is one.
 abbrev pub place_of : Pairs → List ℕ → Option ℕ
 place_of files name = position (λ f. bytes_eq f.0 name) files
 
--- the bytes of the file at this place
+-- The bytes of the file at this place; none where the list has no such place.
 abbrev pub bytes_at : Pairs → ℕ → List ℕ
 bytes_at files place = unwrap_or (option_map (λ f. f.1) (slice_get files place)) []
 
--- the bytes of the first file of this name
+-- The bytes of the first file of this name, if there is one.
 abbrev pub file_of : Pairs → NamedFiles
 file_of files name = option_map (bytes_at files) (place_of files name)
 
--- what is left of the picked file behind the first bytes, and nothing before one is picked
+-- What is left of the picked file behind so many of its first bytes; nothing where no file is picked.
 abbrev pub left_behind : Pairs → Option ℕ → ℕ → List ℕ
 left_behind files None at = []
 left_behind files (Some place) at = drop at (bytes_at files place)

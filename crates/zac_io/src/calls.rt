@@ -4,7 +4,7 @@ ghost use Rattle.std.specs.Prelude.{◌≡◌};
 use zac_gates::List;
 
 // How many calls were made, and the numbers of those that fail. The first call has the number 1.
-#[derive(Debug, Drop)]
+#[derive(Drop)]
 pub(crate) struct Calls {
     pub(crate) made: u64,
     pub(crate) failing: List<u64>,

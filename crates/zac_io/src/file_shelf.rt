@@ -1,5 +1,5 @@
 //! The adapter from files of the system to a shelf.
-ghost use Rattle.std.specs.Prelude.{◌≡◌, [], None, IsTrue, IsErr, IfOk, OnOk, is_some, is_ok};
+ghost use Rattle.std.specs.Prelude.{◌≡◌, [], None, IsTrue, IsErr, IfOk, OnOk, OnErr, is_some, is_ok};
 ghost use Rattle.zac_io.specs.Outside.{HasCause, is_missing, Holds, Gives};
 
 use crate::{Failed, Shelf};
@@ -18,11 +18,12 @@ pub struct FileShelf<'a, R: Files> {
 }
 
 impl<'a, R: Files> FileShelf<'a, R> {
-    ghost use Rattle.zac_io.specs.Adapters.{file_faults};
+    ghost use Rattle.zac_io.specs.Adapters.{file_faults, picked_file};
 
     /// A shelf of the files that this runtime opens, with none picked.
     pub fn new(rt: &'a R) -> FileShelf<'a, R>
-        ensures { file_faults result ≡ 0 }
+        ensures picked { picked_file result ≡ None }
+        ensures faults { file_faults result ≡ 0 }
     {
         FileShelf {
             rt,
@@ -40,6 +41,7 @@ impl<'a, R: Files> FileShelf<'a, R> {
 }
 
 impl<'a, R: Files> Shelf for FileShelf<'a, R> {
+    ghost use Rattle.zac_io.specs.Outside.{next_count};
     ghost use Rattle.zac_io.specs.Adapters.{file_faults, picked_file, ReadsPicked};
 
     ghost files = { λ _. None };
@@ -56,8 +58,9 @@ impl<'a, R: Files> Shelf for FileShelf<'a, R> {
         ensures missing { IsTrue (is_missing None name.now) → IsErr result }
         ensures cause { HasCause result (file_faults self.old) (file_faults self.new) }
 
-        // The file was opened, or none is picked.
+        // The file was opened, or none is picked; a failure counts once.
         ensures picked { is_some (picked_file self.new) ≡ is_ok result }
+        ensures one_fault { OnErr result (file_faults self.new ≡ next_count (file_faults self.old)) }
     {
         match fs::open(self.rt, name) {
             Ok(file) => {
@@ -77,8 +80,9 @@ impl<'a, R: Files> Shelf for FileShelf<'a, R> {
         ensures bytes { IfOk result (Gives None [] [] into.new) }
         ensures cause { HasCause result (file_faults self.old) (file_faults self.new) }
 
-        // It is a read of the picked file.
+        // It is a read of the picked file; a failure counts once.
         ensures read { ReadsPicked R.File.remaining (picked_file self.old) (picked_file self.new) result into.new }
+        ensures one_fault { OnErr result (file_faults self.new ≡ next_count (file_faults self.old)) }
     {
         let Some(file) = &mut self.picked else {
             return Ok(0);

@@ -11,7 +11,7 @@ use zac_gates::{Bytes, List};
 ///
 /// Calls are counted from 1, and the listed ones fail, pass no byte and pick no file. A name that the shelf doesn't
 /// have fails too, and is a stray. A failed call leaves what is left of the picked file as it was.
-#[derive(Debug, Drop)]
+#[derive(Drop)]
 pub struct MemShelf {
     files: List<(Bytes, Bytes)>,
     calls: Calls,
@@ -90,7 +90,8 @@ fn copy_from(bytes: &[u8], at: usize, into: &mut [u8]) -> usize
 }
 
 impl Shelf for MemShelf {
-    ghost use Rattle.zac_io.specs.Calls.{next_count, fails_next, after_call};
+    ghost use Rattle.zac_io.specs.Outside.{next_count};
+    ghost use Rattle.zac_io.specs.Calls.{fails_next, after_call};
     ghost use Rattle.zac_io.specs.Files.{file_of};
     ghost use Rattle.zac_io.specs.MemShelf.{pairs_of, left_of, shelf_calls, shelf_faults, shelf_strays};
 

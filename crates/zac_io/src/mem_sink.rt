@@ -11,7 +11,7 @@ use zac_gates::List;
 ///
 /// Calls are counted from 1, and the listed ones fail and pass no byte. A write past the room passes what fits and
 /// fails too. No write takes memory.
-#[derive(Debug, Drop)]
+#[derive(Drop)]
 pub struct MemSink {
     bytes: Vec<u8>,
     room: usize,
@@ -69,7 +69,8 @@ fn add_front(held: &mut Vec<u8>, room: usize, bytes: &[u8]) -> bool
 }
 
 impl Sink for MemSink {
-    ghost use Rattle.zac_io.specs.Calls.{next_count, fails_next, after_call};
+    ghost use Rattle.zac_io.specs.Outside.{next_count};
+    ghost use Rattle.zac_io.specs.Calls.{fails_next, after_call};
     ghost use Rattle.zac_io.specs.MemSink.{bytes_of, room_of, room_left, sink_calls, sink_faults};
 
     ghost written = { λ sink. Some (bytes_of sink) };

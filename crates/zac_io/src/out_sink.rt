@@ -1,5 +1,5 @@
 //! The adapter from writers of the system to a sink.
-ghost use Rattle.std.specs.Prelude.{◌≡◌, None, OnOk};
+ghost use Rattle.std.specs.Prelude.{◌≡◌, None, OnOk, OnErr};
 ghost use Rattle.std.specs.Io.KnownBytes.{Appends as AppendsKnown};
 ghost use Rattle.zac_io.specs.Outside.{HasCause, Writes};
 
@@ -52,13 +52,14 @@ fn write_and_flush<W: Write>(writer: &mut W, bytes: &[u8]) -> Result<(), Failed>
 }
 
 impl<W: Write + Drop> Sink for OutSink<W> {
+    ghost use Rattle.zac_io.specs.Outside.{next_count};
     ghost use Rattle.zac_io.specs.Adapters.{out_faults, writer_of};
 
     ghost written = { λ _. None };
 
     ghost faults = { out_faults };
 
-    /// Loops until the writer has taken all bytes, and then flushes it.
+    /// Loops until the writer has taken all bytes, and then flushes it; a flush that fails is a failure too.
     fn write(&mut self, bytes: &[u8]) -> Result<(), Failed>
         // What a sink promises.
         ensures bytes { Writes None None bytes.now result }
@@ -66,6 +67,9 @@ impl<W: Write + Drop> Sink for OutSink<W> {
 
         // The writer was given all bytes, where it tells what it has.
         ensures passed { OnOk result (AppendsKnown (W.contents (writer_of self.old)) (W.contents (writer_of self.new)) bytes.now) }
+
+        // A failure counts once.
+        ensures one_fault { OnErr result (out_faults self.new ≡ next_count (out_faults self.old)) }
     {
         match write_and_flush(&mut self.writer, bytes) {
             Ok(()) => Ok(()),

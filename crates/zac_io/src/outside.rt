@@ -2,26 +2,15 @@
 ghost use Rattle.std.specs.Prelude.{◌≡◌, ℕ, List, Option, Bool, IsTrue, IsErr, OnOk, IfOk};
 ghost use Rattle.zac_io.specs.Outside.{NamedFiles, HasCause, RoseWhere, is_missing, Holds, Gives, Writes};
 
-use std::alloc::AllocError;
-
 /// A call on the outside failed. Nothing more is known of it than that a count of faults rose.
-#[derive(Clone, Copy, Debug, PartialEq, Eq)]
+#[derive(Clone, Copy, Debug)]
 pub struct Failed;
-
-/// There was no memory.
-#[derive(Clone, Copy, Debug, PartialEq, Eq)]
-pub struct Memory;
-
-impl From<AllocError> for Memory {
-    fn from(_error: AllocError) -> Memory {
-        Memory
-    }
-}
 
 /// A shelf of named files, of which one at a time is picked and read.
 ///
-/// A count of faults tells when a call failed, and a count of strays when a file was asked for that isn't there.
-/// Neither count falls, and at 2^64 - 1 it stays. No call changes what the names hold, nor whether that is told.
+/// A count of faults tells when a call failed. A count of strays rises at a pick of a name that a shelf which tells its
+/// files doesn't have, and at no other call; so that of a shelf which tells nothing never rises. Neither count falls, and
+/// at 2^64 - 1 it stays. No call changes what the names hold, nor whether that is told.
 pub trait Shelf {
     /// What each name holds, where the shelf tells that.
     ghost files: { Self → Option NamedFiles };
@@ -32,12 +21,12 @@ pub trait Shelf {
     /// How often a call failed.
     ghost faults: { Self → ℕ };
 
-    /// How often a file was picked that the shelf doesn't have.
+    /// How often a name was picked that the shelf tells it doesn't have.
     ghost strays: { Self → ℕ };
 
     /// Picks the file of this name, all of which is left then.
     ///
-    /// Where the shelf tells its files and has none of this name, it is a stray, and fails.
+    /// Where the shelf tells its files and has none of this name, it is a stray, and fails. Nothing else is a stray.
     fn pick(&mut self, name: &str) -> Result<(), Failed>
         ensures same_files { files self.new ≡ files self.old }
         ensures whole { OnOk result (Holds (files self.old) name.now (left self.new)) }

@@ -23,7 +23,7 @@ use Rattle.zair_form.specs.declared.program.Act.TheVariants.{Init, Gates, Rydber
 use Rattle.zair_form.specs.declared.program.Instr.{Instr}
 use Rattle.zair_form.specs.Steps.{is_step_of, has_own_steps}
 use Rattle.zair_text.specs.Lines.{ReadsBack}
-use Rattle.zair_text.specs.Values.{number_value, trap_value, beam_value, caught_value, dropped_value, pair_value, read_value, gate_value, step_value, act_value, instr_value}
+use Rattle.zair_text.specs.Values.{number_value, numbers, trap_value, beam_value, caught_value, dropped_value, pair_value, read_value, gate_value, step_value, act_value, instr_value}
 
 -- values that tell their items apart tell lists apart
 items_same : {X : Type 0} (f : X → Data) → ((x y : X) → f x ≡ f y → x ≡ y) → (xs ys : List X) → items_of (map f xs) ≡ items_of (map f ys) → xs ≡ ys
@@ -44,43 +44,44 @@ trap_same s t e =
     let number : s.0 ≡ t.0 = cc in
     ap make number
 
+-- what two numbers make, or three
+two_same : {X : Type 0} (make : ℕ → ℕ → X) (x y x' y' : ℕ) → numbers (x ∷ y ∷ []) ≡ numbers (x' ∷ y' ∷ []) → make x y ≡ make x' y'
+two_same make x y x' y' e =
+    let first : x ≡ x' = cc in
+    let second : y ≡ y' = cc in
+    ap₂ make first second
+
+three_same : {X : Type 0} (make : ℕ → ℕ → ℕ → X) (x y z x' y' z' : ℕ) → numbers (x ∷ y ∷ z ∷ []) ≡ numbers (x' ∷ y' ∷ z' ∷ []) → make x y z ≡ make x' y' z'
+three_same make x y z x' y' z' e =
+    let first : x ≡ x' = cc in
+    let second : y ≡ y' = cc in
+    let third : z ≡ z' = cc in
+    ap (λ n. make n y z) first ∙ ap₂ (make x') second third
+
 beam_same : (b c : Beam) → beam_value b ≡ beam_value c → b ≡ c
 beam_same b c e =
     let make : ℕ → ℕ → Beam = λ i x. record { id = i; at = x } in
-    let id : b.id ≡ c.id = cc in
-    let at : b.at ≡ c.at = cc in
-    ap₂ make id at
+    two_same make b.id b.at c.id c.at e
 
 caught_same : (b c : Caught) → caught_value b ≡ caught_value c → b ≡ c
 caught_same b c e =
     let make : ℕ → ℕ → ℕ → Caught = λ x y z. record { q = x; row = y; column = z } in
-    let q : b.q ≡ c.q = cc in
-    let row : b.row ≡ c.row = cc in
-    let column : b.column ≡ c.column = cc in
-    ap (λ x. make x b.row b.column) q ∙ ap₂ (make c.q) row column
+    three_same make b.q b.row b.column c.q c.row c.column e
 
 dropped_same : (b c : Dropped) → dropped_value b ≡ dropped_value c → b ≡ c
 dropped_same b c e =
-    let make : ℕ → TrapId → Dropped = λ x t. record { q = x; trap = t } in
-    let q : b.q ≡ c.q = cc in
-    let trap : trap_value b.trap ≡ trap_value c.trap = cc in
-    ap₂ make q (trap_same b.trap c.trap trap)
+    let make : ℕ → ℕ → Dropped = λ x t. record { q = x; trap = record { 0 = t } } in
+    two_same make b.q b.trap.0 c.q c.trap.0 e
 
 pair_same : (b c : PairOf) → pair_value b ≡ pair_value c → b ≡ c
 pair_same b c e =
     let make : ℕ → ℕ → ℕ → PairOf = λ x y z. record { op = x; a = y; b = z } in
-    let op : b.op ≡ c.op = cc in
-    let first : b.a ≡ c.a = cc in
-    let second : b.b ≡ c.b = cc in
-    ap (λ x. make x b.a b.b) op ∙ ap₂ (make c.op) first second
+    three_same make b.op b.a b.b c.op c.a c.b e
 
 read_same : (b c : ReadOf) → read_value b ≡ read_value c → b ≡ c
 read_same b c e =
     let make : ℕ → ℕ → ℕ → ReadOf = λ x y z. record { op = x; q = y; bit = z } in
-    let op : b.op ≡ c.op = cc in
-    let q : b.q ≡ c.q = cc in
-    let bit : b.bit ≡ c.bit = cc in
-    ap (λ x. make x b.q b.bit) op ∙ ap₂ (make c.op) q bit
+    three_same make b.op b.q b.bit c.op c.q c.bit e
 
 gate_same : (b c : OneGate) → gate_value b ≡ gate_value c → b ≡ c
 gate_same b c e =

@@ -2,8 +2,7 @@
 use Rattle.std.proofs.Common.{◌≡◌, ℕ, zero, suc, ◌+◌, ◌<◌, List, [], ◌∷◌, ◌++◌, length, get_or, take, drop, map, Option, refl, sym, ap, ◌∙◌, subst, arith, append_assoc, append-nil}
 use Rattle.std.proofs.lemmas.Grind.{flat_map-append}
 use Rattle.std.proofs.lemmas.List.{map_more}
-use Rattle.zac_io.specs.Outside.{Appends, AppendsPrefix}
-use Rattle.zac_io.proofs.Growth.{Appends-nil, Appends-append, AppendsPrefix-append, AppendsPrefix-after}
+use Rattle.zac_io.specs.Outside.{Appends, AppendsPrefix, WritesAddUp}
 use Rattle.zair_text.specs.Lines.{joined}
 use Rattle.zair_text.specs.Writing.{AppendsLines}
 
@@ -33,13 +32,13 @@ lines_before f xs i x old new h e grown = record {
 }
 
 -- and then a prefix of the line there
-pub prefix_at : {X : Type 0} (f : X → List ℕ) (xs : List X) (i : ℕ) (x : X) (bytes : List ℕ) (old between new : Option (List ℕ)) → i < length xs → x ≡ get_or xs i x → bytes ≡ f x
+pub prefix_at : WritesAddUp → {X : Type 0} (f : X → List ℕ) (xs : List X) (i : ℕ) (x : X) (bytes : List ℕ) (old between new : Option (List ℕ)) → i < length xs → x ≡ get_or xs i x → bytes ≡ f x
     → Appends old between (joined (map f (take i xs))) → AppendsPrefix between new bytes → AppendsPrefix old new (joined (map f xs))
-prefix_at f xs i x bytes old between new h e is grown part =
+prefix_at laws f xs i x bytes old between new h e is grown part =
     let before : List (List ℕ) = map f (take i xs) in
     let after : List (List ℕ) = map f (drop (i + 1) xs) in
     let P : List ℕ → Type 0 = λ s. AppendsPrefix old new s in
-    let both = AppendsPrefix-append old new _ (joined after) (AppendsPrefix-after old between new (joined before) bytes grown part) in
+    let both = laws.front old new _ (joined after) (laws.behind old between new (joined before) bytes grown part) in
     let same : (joined before ++ bytes) ++ joined after ≡ joined (map f xs) =
     append_assoc (joined before) bytes (joined after)
     ∙ (ap (λ b. joined before ++ (b ++ joined after)) is
@@ -48,31 +47,31 @@ prefix_at f xs i x bytes old between new h e is grown part =
     subst P same both
 
 -- or all of it
-pub line_more : {X : Type 0} (f : X → List ℕ) (xs : List X) (i : ℕ) (x : X) (bytes : List ℕ) (old between new : Option (List ℕ)) → i < length xs → x ≡ get_or xs i x → bytes ≡ f x
+pub line_more : WritesAddUp → {X : Type 0} (f : X → List ℕ) (xs : List X) (i : ℕ) (x : X) (bytes : List ℕ) (old between new : Option (List ℕ)) → i < length xs → x ≡ get_or xs i x → bytes ≡ f x
     → Appends old between (joined (map f (take i xs))) → Appends between new bytes → Appends old new (joined (map f (take (i + 1) xs)))
-line_more f xs i x bytes old between new h e is grown more =
+line_more laws f xs i x bytes old between new h e is grown more =
     let before : List (List ℕ) = map f (take i xs) in
     let P : List ℕ → Type 0 = λ s. Appends old new s in
     let same : joined before ++ bytes ≡ joined (map f (take (i + 1) xs)) =
     ap (λ b. joined before ++ b) is ∙ (sym (joined_more before (f x)) ∙ ap joined (sym (take_one_more f xs i x h e))) in
-    subst P same (Appends-append old between new (joined before) bytes grown more)
+    subst P same (laws.both old between new (joined before) bytes grown more)
 
 -- the first line went out, and then some of the others
-pub first_and_lines : (first : List ℕ) (lines : List (List ℕ)) (old between new : Option (List ℕ)) → Appends old between first → AppendsLines between new lines → AppendsLines old new (first ∷ lines)
-first_and_lines first lines old between new one some = record {
+pub first_and_lines : WritesAddUp → (first : List ℕ) (lines : List (List ℕ)) (old between new : Option (List ℕ)) → Appends old between first → AppendsLines between new lines → AppendsLines old new (first ∷ lines)
+first_and_lines laws first lines old between new one some = record {
   whole = first ∷ some.whole;
   next = some.next;
   rest = some.rest;
   is_front = ap (λ ls. first ∷ ls) some.is_front;
-  grown = Appends-append old between new first (joined some.whole) one some.grown;
+  grown = laws.both old between new first (joined some.whole) one some.grown;
 }
 
 -- no line went out
-pub no_line : (first : List ℕ) (lines : List (List ℕ)) (sink : Option (List ℕ)) → AppendsLines sink sink (first ∷ lines)
-no_line first lines sink = record {
+pub no_line : WritesAddUp → (first : List ℕ) (lines : List (List ℕ)) (sink : Option (List ℕ)) → AppendsLines sink sink (first ∷ lines)
+no_line laws first lines sink = record {
   whole = [];
   next = first;
   rest = lines;
   is_front = refl;
-  grown = Appends-nil sink;
+  grown = laws.nothing sink;
 }

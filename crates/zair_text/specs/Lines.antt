@@ -7,27 +7,27 @@ use Rattle.serde_json.specs.Written.{compact_text}
 use Rattle.zair_form.specs.declared.program.Instr.{Instr}
 use Rattle.zair_text.specs.Values.{instr_value, header_value}
 
--- a value's compact text and a line feed
+-- A value's compact text, and a line feed.
 abbrev pub line : Data → List ℕ
 line value = compact_text value ++ 10 ∷ []
 
--- the line of an instruction
+-- The line of an instruction's value.
 abbrev pub instr_line : Instr → List ℕ
 instr_line i = line (instr_value i)
 
--- the lines of a program: the first line, and then a line for each instruction
+-- The line of the header, and then a line for each instruction.
 abbrev pub program_lines : List Instr → List (List ℕ)
 program_lines instrs = line header_value ∷ map instr_line instrs
 
--- lines one after another
+-- The bytes of the lines, one after another.
 abbrev pub joined : List (List ℕ) → List ℕ
 joined lines = flat_map (λ bytes. bytes) lines
 
--- the text of a program
+-- The lines of a program, joined.
 abbrev pub program_text : List Instr → List ℕ
 program_text instrs = joined (program_lines instrs)
 
--- the bytes are one line, and what stands before its line feed reads as the value
+-- The bytes are a text without a line feed and then a line feed, and the text reads as the value.
 pub record ReadsBack (value : Data) (bytes : List ℕ) : Type 0 where
   pub text : List ℕ
   pub ended : bytes ≡ text ++ 10 ∷ []

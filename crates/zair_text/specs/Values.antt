@@ -16,38 +16,47 @@ use Rattle.zair_form.specs.declared.program.Act.{Act}
 use Rattle.zair_form.specs.declared.program.Act.TheVariants.{Init, Gates, Rydberg, Job, Readout}
 use Rattle.zair_form.specs.declared.program.Instr.{Instr}
 
+-- A number as a JSON number.
 abbrev pub number_value : ℕ → Data
 number_value n = number (unsigned n)
 
--- an array of the items' values
+-- An array of these values.
 abbrev pub array_of : List Data → Data
 array_of values = array (items_of values)
 
--- an array of numbers
+-- An array of numbers.
 abbrev pub numbers : List ℕ → Data
 numbers ns = array_of (map number_value ns)
 
+-- The number of a trap.
 abbrev pub trap_value : TrapId → Data
 trap_value t = number_value t.0
 
+-- A beam: its id and its position.
 abbrev pub beam_value : Beam → Data
 beam_value b = numbers (b.id ∷ b.at ∷ [])
 
+-- An array of beams.
 abbrev pub beams_value : List Beam → Data
 beams_value beams = array_of (map beam_value beams)
 
+-- a qubit that is picked up, and the row and the column that catch it
 abbrev pub caught_value : Caught → Data
 caught_value c = numbers (c.q ∷ c.row ∷ c.column ∷ [])
 
+-- a qubit that is dropped, and the trap that takes it
 abbrev pub dropped_value : Dropped → Data
-dropped_value d = array_of (number_value d.q ∷ trap_value d.trap ∷ [])
+dropped_value d = numbers (d.q ∷ d.trap.0 ∷ [])
 
+-- a pair of a pulse: the number of its op, and its two qubits
 abbrev pub pair_value : PairOf → Data
 pair_value p = numbers (p.op ∷ p.a ∷ p.b ∷ [])
 
+-- A read: its op number, its qubit and its bit.
 abbrev pub read_value : ReadOf → Data
 read_value r = numbers (r.op ∷ r.q ∷ r.bit ∷ [])
 
+-- A gate: an object with its op number, its qubit and, under "u", its three angles as strings.
 abbrev pub gate_value : OneGate → Data
 gate_value g = object
     (member (codes "op") (number_value g.op)
@@ -55,6 +64,7 @@ gate_value g = object
     (member (codes "u") (array_of (string g.angles.theta ∷ string g.angles.phi ∷ string g.angles.lambda ∷ []))
     no_members)))
 
+-- An activate: an object with its atoms, columns, rows and the step's name.
 abbrev pub activate_value : List Beam → List Beam → List Caught → Data
 activate_value rows columns atoms = object
     (member (codes "atoms") (array_of (map caught_value atoms))
@@ -63,6 +73,7 @@ activate_value rows columns atoms = object
     (member (codes "step") (string (codes "activate"))
     no_members))))
 
+-- A move: an object with its columns, rows and the step's name.
 abbrev pub move_value : List Beam → List Beam → Data
 move_value rows columns = object
     (member (codes "columns") (beams_value columns)
@@ -70,6 +81,7 @@ move_value rows columns = object
     (member (codes "step") (string (codes "move"))
     no_members)))
 
+-- A deactivate: an object with its atoms, the ids of its columns and rows, and the step's name.
 abbrev pub deactivate_value : List ℕ → List ℕ → List Dropped → Data
 deactivate_value rows columns atoms = object
     (member (codes "atoms") (array_of (map dropped_value atoms))
@@ -87,26 +99,21 @@ step_value (One gate) = null
 step_value (Pulse pairs) = null
 step_value (step.Readout reads) = null
 
--- the value of what an instruction does, with its times
+-- an object with the times of an instruction, a list under its key, and the kind
+abbrev pub timed_value : ℕ → ℕ → List ℕ → List Data → List ℕ → Data
+timed_value begin end key values kind = object
+    (member (codes "begin") (number_value begin)
+    (member (codes "end") (number_value end)
+    (member key (array_of values)
+    (member (codes "type") (string kind)
+    no_members))))
+
+-- What an instruction does, with its begin and its end: an object whose "type" is "init", "1qGate", "rydberg",
+-- "rearrangeJob" or "readout". A job has its AOD too.
 abbrev pub act_value : ℕ → ℕ → Act → Data
-act_value begin end (Init homes) = object
-    (member (codes "begin") (number_value begin)
-    (member (codes "end") (number_value end)
-    (member (codes "homes") (array_of (map trap_value homes))
-    (member (codes "type") (string (codes "init"))
-    no_members))))
-act_value begin end (Gates ones) = object
-    (member (codes "begin") (number_value begin)
-    (member (codes "end") (number_value end)
-    (member (codes "gates") (array_of (map gate_value ones))
-    (member (codes "type") (string (codes "1qGate"))
-    no_members))))
-act_value begin end (Rydberg pairs) = object
-    (member (codes "begin") (number_value begin)
-    (member (codes "end") (number_value end)
-    (member (codes "pairs") (array_of (map pair_value pairs))
-    (member (codes "type") (string (codes "rydberg"))
-    no_members))))
+act_value begin end (Init homes) = timed_value begin end (codes "homes") (map trap_value homes) (codes "init")
+act_value begin end (Gates ones) = timed_value begin end (codes "gates") (map gate_value ones) (codes "1qGate")
+act_value begin end (Rydberg pairs) = timed_value begin end (codes "pairs") (map pair_value pairs) (codes "rydberg")
 act_value begin end (Job aod steps) = object
     (member (codes "aod") (number_value aod)
     (member (codes "begin") (number_value begin)
@@ -114,18 +121,13 @@ act_value begin end (Job aod steps) = object
     (member (codes "steps") (array_of (map step_value steps))
     (member (codes "type") (string (codes "rearrangeJob"))
     no_members)))))
-act_value begin end (Readout reads) = object
-    (member (codes "begin") (number_value begin)
-    (member (codes "end") (number_value end)
-    (member (codes "reads") (array_of (map read_value reads))
-    (member (codes "type") (string (codes "readout"))
-    no_members))))
+act_value begin end (Readout reads) = timed_value begin end (codes "reads") (map read_value reads) (codes "readout")
 
--- the value of an instruction
+-- The value of an instruction: that of its act with its times.
 abbrev pub instr_value : Instr → Data
 instr_value i = act_value i.begin i.end i.act
 
--- the value of the first line: the form of the text and its version
+-- The value of the first line: "type" is "zair", and "version" is 1.
 abbrev pub header_value : Data
 header_value = object
     (member (codes "type") (string (codes "zair"))

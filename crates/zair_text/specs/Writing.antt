@@ -5,7 +5,7 @@ use Rattle.zair_text.specs.declared.write.WriteFault.{WriteFault}
 use Rattle.zair_text.specs.declared.write.WriteFault.TheVariants.{Memory, Failed}
 use Rattle.zair_text.specs.Lines.{joined}
 
--- what the sink has, where it tells that, has grown by the first of the lines, whole, and not by all of them
+-- What the sink has, where it tells that, has grown by the first of the lines, each whole, and not by all of them.
 pub record AppendsLines (old new : Option (List ℕ)) (lines : List (List ℕ)) : Type 0 where
   pub whole : List (List ℕ)
   pub next : List ℕ
@@ -13,7 +13,7 @@ pub record AppendsLines (old new : Option (List ℕ)) (lines : List (List ℕ)) 
   pub is_front : whole ++ next ∷ rest ≡ lines
   pub grown : Appends old new (joined whole)
 
--- `Failed` comes only where a fault rose; at every other answer no call failed, and the count is as it was
+-- After `Failed` the sink's count of faults has risen; after every other answer it is as it was.
 abbrev pub HasWriteCause : Result Unit WriteFault → ℕ → ℕ → Type 0
 HasWriteCause (Ok written) before now = now ≡ before
 HasWriteCause (Err Memory) before now = now ≡ before

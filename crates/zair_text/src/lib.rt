@@ -10,6 +10,3 @@ pub mod write;
 pub use line::{header_line, line_of};
 pub use write::{WriteFault, write_program};
 pub use zac_gates::Memory;
-
-#[cfg(test)]
-mod tests;

@@ -41,6 +41,14 @@ impl ToJson for u8 {
     }
 }
 
+impl ToJson for u64 {
+    ghost value_of = { number_value };
+
+    fn to_json(&self, _alloc: Global) -> Result<Value, AllocError> {
+        Ok(Value::from(*self))
+    }
+}
+
 impl ToJson for TrapId {
     ghost value_of = { trap_value };
 
@@ -53,7 +61,7 @@ impl ToJson for Beam {
     ghost value_of = { beam_value };
 
     fn to_json(&self, alloc: Global) -> Result<Value, AllocError> {
-        json!(in alloc; [self.id, self.at])
+        array_json(alloc, &[u64::from(self.id), u64::from(self.at)])
     }
 }
 
@@ -61,7 +69,14 @@ impl ToJson for Caught {
     ghost value_of = { caught_value };
 
     fn to_json(&self, alloc: Global) -> Result<Value, AllocError> {
-        json!(in alloc; [self.q, self.row, self.column])
+        array_json(
+            alloc,
+            &[
+                u64::from(self.q),
+                u64::from(self.row),
+                u64::from(self.column),
+            ],
+        )
     }
 }
 
@@ -69,7 +84,7 @@ impl ToJson for Dropped {
     ghost value_of = { dropped_value };
 
     fn to_json(&self, alloc: Global) -> Result<Value, AllocError> {
-        json!(in alloc; [self.q, self.trap.0])
+        array_json(alloc, &[u64::from(self.q), u64::from(self.trap.0)])
     }
 }
 
@@ -77,7 +92,10 @@ impl ToJson for PairOf {
     ghost value_of = { pair_value };
 
     fn to_json(&self, alloc: Global) -> Result<Value, AllocError> {
-        json!(in alloc; [self.op, self.a, self.b])
+        array_json(
+            alloc,
+            &[u64::from(self.op), u64::from(self.a), u64::from(self.b)],
+        )
     }
 }
 
@@ -85,7 +103,10 @@ impl ToJson for ReadOf {
     ghost value_of = { read_value };
 
     fn to_json(&self, alloc: Global) -> Result<Value, AllocError> {
-        json!(in alloc; [self.op, self.q, self.bit])
+        array_json(
+            alloc,
+            &[u64::from(self.op), u64::from(self.q), u64::from(self.bit)],
+        )
     }
 }
 

@@ -11,7 +11,7 @@ use crate::line::{header_line, line_of};
 use std::alloc::Global;
 use thiserror::Error;
 use zac_gates::Memory;
-use zac_io::{Failed, Sink};
+use zac_io::{Failed, Sink, writes_add_up};
 use zair_form::{Instr, Program};
 
 /// Why a text was not written whole.
@@ -72,6 +72,7 @@ pub fn write_program<K: Sink>(
     ensures cause { HasWriteCause result (K.faults sink.old) (K.faults sink.new) }
     ensures writable { OnOk result (AreWritable program.now) }
 {
+    writes_add_up();
     write_header(alloc, sink)?;
     write_instrs(alloc, program.instrs(), sink)
 }
@@ -102,6 +103,7 @@ fn write_instrs<K: Sink>(alloc: Global, instrs: &[Instr], sink: &mut K) -> Resul
     ensures cause { HasWriteCause result (K.faults sink.old) (K.faults sink.new) }
     ensures writable { OnOk result (AreWritable instrs.now) }
 {
+    writes_add_up();
     for instr in instrs {
         let line = line_of(alloc, instr)?;
         sink.write(line.as_slice())?;

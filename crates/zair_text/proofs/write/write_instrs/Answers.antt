@@ -10,12 +10,12 @@ returns-in_err-line-clause-memory g c =
 
 pub returns-in_err-write-clause-failed : goal.returns-in_err-write-clause-failed
 returns-in_err-write-clause-failed g c =
-    λ h. prefix_at instr_line c.args.instrs.now c.loop-instr.instr-index c.instr-item.result _ _ _ _ c.loop-instr-test.true c.instr-item.is
+    λ h. prefix_at c.writes_add_up.ensures instr_line c.args.instrs.now c.loop-instr.instr-index c.instr-item.result _ _ _ _ c.loop-instr-test.true c.instr-item.is
     (c.as_slice.ensures ∙ c.in_ok-line.ensures.line) c.loop-instr.invariant.0 c.in_err-write.ensures.bytes
 
 pub loop-instr-preserved : goal.loop-instr-preserved
 loop-instr-preserved g c = (
-  line_more instr_line c.args.instrs.now c.loop-instr.instr-index c.instr-item.result _ _ _ _ c.loop-instr-test.true c.instr-item.is
+  line_more c.writes_add_up.ensures instr_line c.args.instrs.now c.loop-instr.instr-index c.instr-item.result _ _ _ _ c.loop-instr-test.true c.instr-item.is
       (c.as_slice.ensures ∙ c.in_ok-line.ensures.line) c.loop-instr.invariant.0 c.in_ok-write.ensures.bytes,
   c.in_ok-write.ensures.cause ∙ c.loop-instr.invariant.1,
   writable_more c.args.instrs.now c.loop-instr.instr-index c.instr-item.result _ c.loop-instr-test.true c.instr-item.is c.requires c.in_ok-line.ensures.reads_back c.loop-instr.invariant.2,
