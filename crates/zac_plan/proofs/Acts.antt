@@ -39,31 +39,31 @@ each_rests a n at_site q within =
     (t, rests_in a (rests_with a n at_site) q t (slice_get-get_or (rests_with a n at_site) q (home 0) (omega (arith, length_rests a n at_site))))
 
 -- the qubits of gates and of reads that wait are in range
-abbrev pub GateFits : ℕ → OneGate → Type 0
-GateFits n g = g.q < n
+abbrev pub IsGateBelow : ℕ → OneGate → Type 0
+IsGateBelow n g = g.q < n
 
-abbrev pub ReadFits : ℕ → ReadOf → Type 0
-ReadFits n r = r.q < n
+abbrev pub IsReadBelow : ℕ → ReadOf → Type 0
+IsReadBelow n r = r.q < n
 
-gates_lead : (a : Architecture) (n : ℕ) (at_site : Option (ℕ × ℕ)) (ones : List OneGate) → AllByRecursion (GateFits n) ones →
+gates_lead : (a : Architecture) (n : ℕ) (at_site : Option (ℕ × ℕ)) (ones : List OneGate) → AllByRecursion (IsGateBelow n) ones →
     LeadsTo a (rests_with a n at_site) (map (λ gate. One gate) ones) (rests_with a n at_site)
 gates_lead a n at_site [] h = leads_nowhere a (rests_with a n at_site)
 gates_lead a n at_site (g ∷ gs) h =
     let rest = gates_lead a n at_site gs h.1 in
     record { legal = (each_rests a n at_site g.q h.0, rest.legal); leaves = rest.leaves }
 
-pub gates_of_lead : (a : Architecture) (n : ℕ) (at_site : Option (ℕ × ℕ)) (ones : List OneGate) → AllByRecursion (GateFits n) ones →
+pub gates_of_lead : (a : Architecture) (n : ℕ) (at_site : Option (ℕ × ℕ)) (ones : List OneGate) → AllByRecursion (IsGateBelow n) ones →
     LeadsTo a (rests_with a n at_site) (flat_map (λ act. steps_of act) (gates_of ones)) (rests_with a n at_site)
 gates_of_lead a n at_site [] h = leads_nowhere a (rests_with a n at_site)
 gates_of_lead a n at_site (g ∷ gs) h =
     leads-append a (rests_with a n at_site) (rests_with a n at_site) (rests_with a n at_site) (map (λ gate. One gate) (g ∷ gs)) [] (gates_lead a n at_site (g ∷ gs) h) (leads_nowhere a (rests_with a n at_site))
 
-reads_rest : (a : Architecture) (n : ℕ) (at_site : Option (ℕ × ℕ)) (reads : List ReadOf) → AllByRecursion (ReadFits n) reads →
+reads_rest : (a : Architecture) (n : ℕ) (at_site : Option (ℕ × ℕ)) (reads : List ReadOf) → AllByRecursion (IsReadBelow n) reads →
     AllByRecursion (λ (r : ReadOf). Rests (opening a (rests_with a n at_site)) r.q) reads
 reads_rest a n at_site [] h = tt
 reads_rest a n at_site (r ∷ rs) h = (each_rests a n at_site r.q h.0, reads_rest a n at_site rs h.1)
 
-pub readout_leads : (a : Architecture) (n : ℕ) (at_site : Option (ℕ × ℕ)) (reads : List ReadOf) → AllByRecursion (ReadFits n) reads →
+pub readout_leads : (a : Architecture) (n : ℕ) (at_site : Option (ℕ × ℕ)) (reads : List ReadOf) → AllByRecursion (IsReadBelow n) reads →
     LeadsTo a (rests_with a n at_site) (flat_map (λ act. steps_of act) (readout_of reads)) (rests_with a n at_site)
 readout_leads a n at_site [] h = leads_nowhere a (rests_with a n at_site)
 readout_leads a n at_site (r ∷ rs) h = record {
@@ -110,7 +110,7 @@ module _ (a : Architecture) (rules : KeepsRules a) (n : ℕ) (fit : n ≤ storag
 
   -- the steps of what is left to do are legal, and lead to a state at rest
   pub acts_lead : (bits k : ℕ) (at_site : Option (ℕ × ℕ)) (ones : List OneGate) (reads : List ReadOf) (ops : List Op) → IsPair n at_site →
-      AllByRecursion (GateFits n) ones → AllByRecursion (ReadFits n) reads → AllByRecursion (IsInRange n bits) ops →
+      AllByRecursion (IsGateBelow n) ones → AllByRecursion (IsReadBelow n) reads → AllByRecursion (IsInRange n bits) ops →
       (last : Option (ℕ × ℕ)) × LeadsTo a (rests_with a n at_site) (flat_map (λ act. steps_of act) (acts_from a k at_site ones reads ops)) (rests_with a n last)
   acts_lead bits k at_site ones reads [] pair gates readouts valid = (
     at_site,
@@ -119,7 +119,7 @@ module _ (a : Architecture) (rules : KeepsRules a) (n : ℕ) (fit : n ≤ storag
         (gates_of_lead a n at_site ones gates) (readout_leads a n at_site reads readouts)),
   )
   acts_lead bits k at_site ones reads (op.One q angles ∷ ops) pair gates readouts valid =
-      acts_lead bits (k + 1) at_site (ones ++ record { op = k; q = q; angles = angles } ∷ []) reads ops pair (fits-push (GateFits n) ones _ gates valid.0) readouts valid.1
+      acts_lead bits (k + 1) at_site (ones ++ record { op = k; q = q; angles = angles } ∷ []) reads ops pair (fits-push (IsGateBelow n) ones _ gates valid.0) readouts valid.1
   acts_lead bits k at_site ones reads (op.Two q r ∷ ops) pair gates readouts valid =
       let rest = acts_lead bits (k + 1) (Some (q, r)) [] reads ops valid.0 tt readouts valid.1 in
       let after_pulse : List Act = acts_from a (k + 1) (Some (q, r)) [] reads ops in
@@ -134,4 +134,4 @@ module _ (a : Architecture) (rules : KeepsRules a) (n : ℕ) (fit : n ≤ storag
   acts_lead bits k at_site ones reads (op.Fence ∷ ops) pair gates readouts valid =
       acts_lead bits (k + 1) at_site ones reads ops pair gates readouts valid.1
   acts_lead bits k at_site ones reads (op.Read q bit ∷ ops) pair gates readouts valid =
-      acts_lead bits (k + 1) at_site ones (reads ++ record { op = k; q = q; bit = bit } ∷ []) ops pair gates (fits-push (ReadFits n) reads _ readouts valid.0.0) valid.1
+      acts_lead bits (k + 1) at_site ones (reads ++ record { op = k; q = q; bit = bit } ∷ []) ops pair gates (fits-push (IsReadBelow n) reads _ readouts valid.0.0) valid.1

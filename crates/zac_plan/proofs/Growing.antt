@@ -18,13 +18,22 @@ use Rattle.zair_form.specs.declared.program.Act.TheVariants.{Gates, Job, Readout
 use Rattle.zair_form.specs.declared.program.Instr.{Instr}
 use Rattle.zair_form.specs.Steps.{steps_of}
 use Rattle.zair_form.specs.Times.{LastTogether, greatest_change}
+use Rattle.zair_machine.specs.Chain.{IsChain, end_of}
 use Rattle.zac_plan.specs.declared.timeline.Timeline.{Timeline}
-use Rattle.zac_plan.specs.Chain.{IsChain, end_of}
 use Rattle.zac_plan.specs.Flight.{flight_steps, IsFlightTime}
 use Rattle.zac_plan.specs.Growth.{GoesOn}
 use Rattle.zac_plan.specs.Plan.{carrier, carry, point_at, gates_of, readout_of, home, left, right, arrivals, returns}
-use Rattle.zac_plan.proofs.Chaining.{IsChain-append, end_of-append}
-use Rattle.zac_plan.proofs.ChainPlan.{carrier_change}
+use Rattle.zac_plan.proofs.Moves.{carrier_change}
+
+-- a chain after a chain
+IsChain-append : (f : Figures) (from : ℕ) (is js : List Instr) →
+    IsChain f from is → IsChain f (end_of from is) js → IsChain f from (is ++ js)
+IsChain-append f from [] js first second = second
+IsChain-append f from (i ∷ is) js first second = (first.0, first.1, IsChain-append f i.end is js first.2 second)
+
+end_of-append : (from : ℕ) (is js : List Instr) → end_of from (is ++ js) ≡ end_of (end_of from is) js
+end_of-append from [] js = refl
+end_of-append from (i ∷ is) js = end_of-append i.end is js
 
 pub goes_nowhere : (f : Figures) (t : Timeline) → GoesOn f t t []
 goes_nowhere f t = record { added = []; instrs = sym (append-nil t.instrs.items); does = refl; chain = tt; now = refl }

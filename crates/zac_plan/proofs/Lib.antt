@@ -1,13 +1,7 @@
 pub mod Lists
 pub mod Bounds
 pub mod Carry
-pub mod Chaining
-pub mod ChainSteps
-pub mod ChainOrder
-pub mod ChainNamed
-pub mod ChainTimes
-pub mod ChainPlan
-pub mod ChainPerforms
+pub mod Moves
 pub mod Growing
 pub mod Taking
 pub mod Rests
@@ -17,3 +11,4 @@ pub mod Acts
 pub mod Logs
 pub mod Performing
 pub mod Planned
+pub mod Ranges

@@ -1,10 +1,14 @@
 -- Facts on lists of one element, and on an element that is written and read.
-use Rattle.std.proofs.Common.{◌≡◌, ◌≢◌, ℕ, zero, suc, ◌<◌, List, [], ◌∷◌, Some, get_or, set, refl, sym, ap, arith, slice_get}
-use Rattle.std.specs.List.{All, AllPairs, AllAdjacentBelow, Contains}
+use Rattle.std.proofs.Common.{◌≡◌, ◌≢◌, ℕ, zero, suc, ◌<◌, List, [], ◌∷◌, ◌++◌, Some, get_or, set, refl, sym, ap, arith, slice_get}
+use Rattle.std.specs.List.{All, AllByRecursion, AllPairs, AllAdjacentBelow, Contains}
 use Rattle.std.proofs.lemmas.List.Elements.{All-cons, All-nil}
 
 pub All-one : {X : Type 0} (P : X → Type 0) (x : X) → P x → All P (x ∷ [])
 All-one P x h = All-cons P x [] h (All-nil P)
+
+pub all-append : {X : Type 0} (P : X → Type 0) (xs ys : List X) → AllByRecursion P xs → AllByRecursion P ys → AllByRecursion P (xs ++ ys)
+all-append P [] ys first second = second
+all-append P (x ∷ xs) ys first second = (first.0, all-append P xs ys first.1 second)
 
 pub AllPairs-one : {X : Type 0} (R : X → X → Type 0) (x : X) → AllPairs R (x ∷ [])
 AllPairs-one R x i j d before within = absurd (omega arith)

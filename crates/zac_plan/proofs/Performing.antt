@@ -1,17 +1,16 @@
--- A chain of instructions that do the plan of a circuit performs the circuit.
-use Rattle.std.proofs.Common.{◌≡◌, ℕ, suc, ◌+◌, ◌≤◌, Bool, not, ◌&&◌, List, [], ◌∷◌, ◌++◌, Option, Some, None, IsTrue, get_or, refl, sym, ap, ◌∙◌, subst, arith, slice_get, map}
-use Rattle.std.specs.List.{AllByRecursion, flat_map, list_all}
+-- A chain of instructions that do the plan of a circuit is safe.
+use Rattle.std.proofs.Common.{◌≡◌, ℕ, ◌+◌, ◌≤◌, Bool, not, ◌&&◌, List, [], ◌∷◌, ◌++◌, Option, Some, None, IsTrue, get_or, refl, sym, ap, ◌∙◌, subst, arith, map}
+use Rattle.std.specs.List.{flat_map, list_all}
 use Rattle.std.proofs.lemmas.Bool.{and_from, and_parts}
 use Rattle.std.proofs.lemmas.List.FromFn.{length-map-range_with_len}
 use Rattle.std.proofs.lemmas.Option.{slice_get-get_or}
 use Rattle.zac_arch.specs.Architecture.{Architecture, storage_count}
-use Rattle.zac_arch.specs.Rules.{KeepsRules}
+use Rattle.zac_arch.specs.Rules.{KeepsRules, HasFigureRanges}
 use Rattle.zac_arch.specs.declared.place.TrapId.{TrapId}
 use Rattle.zac_gates.specs.Log.{Entry, Realises, gates_then_reads}
-use Rattle.zac_gates.specs.Ops.{NativeCircuit, IsValid, IsInRange}
+use Rattle.zac_gates.specs.Ops.{NativeCircuit, IsValid}
 use Rattle.zac_gates.specs.declared.circuit.Op.{Op}
 use Rattle.zac_gates.specs.declared.circuit.Op.TheVariants as op
-use Rattle.zac_gates.proofs.Realising.{realised_gates_then_reads}
 use Rattle.zair_form.specs.Steps.{steps_of, is_init, has_own_steps, is_program, may_follow, homes, homes_of}
 use Rattle.zair_form.specs.declared.program.Act.{Act}
 use Rattle.zair_form.specs.declared.program.Act.TheVariants.{Init, Rydberg}
@@ -19,20 +18,17 @@ use Rattle.zair_form.specs.declared.program.Instr.{Instr}
 use Rattle.zair_form.specs.declared.step.OneGate.{OneGate}
 use Rattle.zair_form.specs.declared.step.ReadOf.{ReadOf}
 use Rattle.zair_form.specs.declared.step.Step.{Step}
-use Rattle.zair_form.specs.declared.step.Step.TheVariants.{Activate, Move, Deactivate, One, Pulse}
-use Rattle.zair_form.specs.declared.step.Step.TheVariants as step
-use Rattle.zair_machine.specs.Legal.{IsLegal}
-use Rattle.zair_machine.specs.Result.{after}
 use Rattle.zair_machine.specs.Run.{IsLegalRun, log_of}
-use Rattle.zair_machine.specs.State.{State, opening}
-use Rattle.zac_plan.specs.Chain.{IsChain}
-use Rattle.zac_plan.specs.Performs.{Performs, AreHomes, BringsListedPairs, EachBringsListedPairs}
+use Rattle.zair_machine.specs.State.{opening}
+use Rattle.zair_machine.specs.Chain.{IsChain, IsSafeChain}
+use Rattle.zair_machine.specs.Homes.{AreHomes}
+use Rattle.zair_machine.specs.Performs.{listed_steps}
 use Rattle.zac_plan.specs.Plan.{home, homes_for, plan, acts_from, gates_of, readout_of, returns, arrivals}
 use Rattle.zac_plan.proofs.Acts.{acts_lead}
-use Rattle.zac_plan.proofs.ChainPerforms.{listed_steps, chain_performs}
-use Rattle.zac_plan.proofs.ChainPlan.{program_takes_time}
 use Rattle.zac_plan.proofs.Logs.{plan_log}
+use Rattle.zac_plan.proofs.Moves.{program_goes_somewhere}
 use Rattle.zac_plan.proofs.Phases.{home_is}
+use Rattle.zac_plan.proofs.Planned.{ops_in_range}
 
 -- an instruction that may follow the first
 abbrev may_come : Act → Bool
@@ -110,40 +106,23 @@ are_homes a n fit = record {
       omega arith;
 }
 
--- a legal step brings its listed pairs within range
-brings : (a : Architecture) (s : State) (x : Step) → IsLegal a s x → BringsListedPairs a s x
-brings a s (Activate aod rows columns atoms) h = tt
-brings a s (Move aod rows columns) h = tt
-brings a s (Deactivate aod rows columns atoms) h = tt
-brings a s (One gate) h = tt
-brings a s (Pulse pairs) h = h.in_range
-brings a s (step.Readout reads) h = tt
-
-pub each_brings : (a : Architecture) (s : State) (steps : List Step) → IsLegalRun a s steps → EachBringsListedPairs a s steps
-each_brings a s [] h = tt
-each_brings a s (x ∷ xs) h = (brings a s x h.0, each_brings a (after s x) xs h.1)
-
-all_at : {X : Type 0} (P : X → Type 0) (xs : List X) → ((k : ℕ) (x : X) → slice_get xs k ≡ Some x → P x) → AllByRecursion P xs
-all_at P [] h = tt
-all_at P (x ∷ xs) h = (h 0 x refl, all_at P xs (λ k y e. h (suc k) y e))
-
-pub ops_in_range : (c : NativeCircuit) → IsValid c → AllByRecursion (IsInRange c.qubits c.bits) c.ops
-ops_in_range c valid = all_at (IsInRange c.qubits c.bits) c.ops (λ k x e. (valid k x e).in_range)
-
-pub performs : (a : Architecture) (c : NativeCircuit) (program : List Instr) → KeepsRules a → c.qubits ≤ storage_count a → IsValid c →
-    IsChain a.figures 0 program → map (λ i. i.act) program ≡ plan a c → Performs a c program
-performs a c program rules fit valid chain does =
+-- so a chain of them keeps what a safe chain has to keep
+pub plan_is_safe : (a : Architecture) (c : NativeCircuit) (program : List Instr) → KeepsRules a → HasFigureRanges a.figures →
+    c.qubits ≤ storage_count a → IsValid c → Realises c.ops (gates_then_reads c.ops) →
+    IsChain a.figures 0 program → map (λ i. i.act) program ≡ plan a c → IsSafeChain a c program
+plan_is_safe a c program rules ranges fit valid realised chain does =
     let at_home = homes_from_plan a c program does in
     let steps = steps_from_plan a c program does in
     let run = acts_lead a rules c.qubits fit c.bits 0 None [] [] c.ops tt tt tt (ops_in_range c valid) in
-    let legal : IsLegalRun a (opening a (homes program)) (listed_steps program) =
-    subst (λ (l : List TrapId). IsLegalRun a (opening a l) (listed_steps program)) (sym at_home)
-    (subst (λ (l : List Step). IsLegalRun a (opening a (homes_for c.qubits)) l) (sym steps) run.1.legal) in
     let log : log_of (listed_steps program) ≡ gates_then_reads c.ops = ap log_of steps ∙ plan_log a c.ops in
-    chain_performs a c program (program_from_plan a c program does)
-    (subst (λ (l : List TrapId). AreHomes a c.qubits l) (sym at_home) (are_homes a c.qubits fit))
-    chain (program_takes_time a c program rules fit valid does) (record {
-      legal = legal;
-      pairs = each_brings a (opening a (homes program)) (listed_steps program) legal;
-      realises = subst (λ (l : List Entry). Realises c.ops l) (sym log) (realised_gates_then_reads c.ops);
-    })
+    record {
+      ranges = ranges;
+      form = program_from_plan a c program does;
+      homes = subst (λ (l : List TrapId). AreHomes a c.qubits l) (sym at_home) (are_homes a c.qubits fit);
+      chain = chain;
+      moves = program_goes_somewhere a c program rules fit (ops_in_range c valid) does;
+      legal =
+          subst (λ (l : List TrapId). IsLegalRun a (opening a l) (listed_steps program)) (sym at_home)
+          (subst (λ (l : List Step). IsLegalRun a (opening a (homes_for c.qubits)) l) (sym steps) run.1.legal);
+      realises = subst (λ (l : List Entry). Realises c.ops l) (sym log) realised;
+    }

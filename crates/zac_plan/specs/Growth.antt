@@ -1,4 +1,4 @@
--- How a timeline grows while a circuit is planned.
+-- Inside: how a timeline grows while a circuit is planned.
 use Rattle.std.specs.Prelude.{◌≡◌, ℕ, ◌<◌, Option, Some, None, List, ◌++◌, map}
 use Rattle.zac_arch.specs.Architecture.{Architecture, trap_count}
 use Rattle.zac_arch.specs.declared.card.Figures.{Figures}
@@ -8,10 +8,11 @@ use Rattle.zair_form.specs.declared.program.Act.{Act}
 use Rattle.zair_form.specs.declared.program.Instr.{Instr}
 use Rattle.zac_plan.specs.declared.timeline.Timeline.{Timeline}
 use Rattle.zac_plan.specs.declared.timeline.Site.{Site}
-use Rattle.zac_plan.specs.Chain.{IsChain, end_of}
+use Rattle.zair_machine.specs.Chain.{IsChain, end_of}
 use Rattle.zac_plan.specs.Plan.{left, right}
 
--- the timeline has gone on without a pause by instructions that do this
+-- A timeline has grown by instructions that do exactly these acts, without a pause from where it stood, and stands now
+-- where the last of them ends.
 pub record GoesOn (f : Figures) (old new : Timeline) (acts : List Act) : Type 0 where
   pub added : List Instr
   pub instrs : new.instrs.items ≡ old.instrs.items ++ added
@@ -19,19 +20,19 @@ pub record GoesOn (f : Figures) (old new : Timeline) (acts : List Act) : Type 0 
   pub chain : IsChain f old.now added
   pub now : new.now ≡ end_of old.now added
 
--- these are the two traps of site 0
+-- These are the two traps of site 0, and both exist.
 pub record IsSite (a : Architecture) (site : Site) : Type 0 where
   pub left : site.left ≡ left a
   pub right : site.right ≡ right a
   pub left_in : site.left.0 < trap_count a
   pub right_in : site.right.0 < trap_count a
 
--- the numbers of the pair's qubits are those of traps, which are their homes
+-- The numbers of the qubits of the pair, if there is one, are those of traps.
 abbrev pub AreTraps : Architecture → Option (ℕ × ℕ) → Type 0
 AreTraps a None = Unit {0}
 AreTraps a (Some pair) = (pair.0 < trap_count a) × (pair.1 < trap_count a)
 
--- a pair's qubits have homes on the card
+-- If the op is a pair, its qubits are below the count of traps.
 abbrev pub HasHomes : Architecture → Op → Type 0
 HasHomes a (One q angles) = Unit {0}
 HasHomes a (Two p q) = (p < trap_count a) × (q < trap_count a)

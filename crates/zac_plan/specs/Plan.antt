@@ -15,15 +15,15 @@ use Rattle.zair_form.specs.declared.step.Step.TheVariants.{Activate, Move, Deact
 use Rattle.zair_form.specs.declared.program.Act.{Act}
 use Rattle.zair_form.specs.declared.program.Act.TheVariants.{Init, Gates, Rydberg, Job, Readout}
 
--- where a trap stands
+-- Where a trap stands; (0,0) where there is no such trap.
 abbrev pub point_at : Architecture → TrapId → Point
 point_at a t = slice_index_or (trap_points a) t.0 (record { x = 0; y = 0 })
 
--- the one beam that carries an atom, as a row or as a column
+-- The one beam, of id 0, that carries an atom, at this position.
 abbrev pub carrier : ℕ → List Beam
 carrier at = record { id = 0; at = at } ∷ []
 
--- one atom is caught in its trap, flies, and is dropped into another trap
+-- AOD 0 catches one atom in its trap, moves it to another trap, and drops it there.
 abbrev pub carry_steps : Architecture → ℕ → TrapId → TrapId → List Step
 carry_steps a q from to =
     Activate 0 (carrier (point_at a from).y) (carrier (point_at a from).x) (record { q = q; row = 0; column = 0 } ∷ [])
@@ -31,48 +31,51 @@ carry_steps a q from to =
     ∷ Deactivate 0 (0 ∷ []) (0 ∷ []) (record { q = q; trap = to } ∷ [])
     ∷ []
 
--- a job of AOD 0 that carries one atom
+-- The job of AOD 0 with those steps.
 abbrev pub carry : Architecture → ℕ → TrapId → TrapId → Act
 carry a q from to = Job 0 (carry_steps a q from to)
 
--- each qubit rests in the trap of its own number
+-- A qubit's home: the trap of the qubit's number.
 abbrev pub home : ℕ → TrapId
 home q = record { 0 = q }
 
+-- The homes of the first so many qubits, in their order.
 abbrev pub homes_for : ℕ → List TrapId
 homes_for qubits = map home (range_with_len 0 qubits)
 
--- the two traps of site 0
+-- The left trap of site 0.
 abbrev pub left : Architecture → TrapId
 left a = record { 0 = left_trap a 0 }
 
+-- The right trap of site 0.
 abbrev pub right : Architecture → TrapId
 right a = record { 0 = right_trap a 0 }
 
--- the two atoms of a pair are carried to site 0, the one of smaller number first and to the left
+-- The two atoms of a pair are carried from their homes to site 0, the one of smaller number first and to the left.
 abbrev pub arrivals : Architecture → ℕ → ℕ → List Act
 arrivals a q r =
     carry a (min q r) (home (min q r)) (left a) ∷ carry a (max q r) (home (max q r)) (right a) ∷ []
 
--- they go back to their homes, the one of smaller number first
+-- The two atoms of the pair at site 0, if there is one, are carried to their homes, the one of smaller number first.
 abbrev pub returns : Architecture → Option (ℕ × ℕ) → List Act
 returns a None = []
 returns a (Some pair) =
     carry a (min pair.0 pair.1) (left a) (home (min pair.0 pair.1))
     ∷ carry a (max pair.0 pair.1) (right a) (home (max pair.0 pair.1)) ∷ []
 
--- gates and reads that wait, in one instruction, which is left out where there are none
+-- One instruction with these gates; none where there are no gates.
 abbrev pub gates_of : List OneGate → List Act
 gates_of [] = []
 gates_of (one ∷ ones) = Gates (one ∷ ones) ∷ []
 
+-- One instruction with these reads; none where there are no reads.
 abbrev pub readout_of : List ReadOf → List Act
 readout_of [] = []
 readout_of (read ∷ reads) = Readout (read ∷ reads) ∷ []
 
--- What is left to do for the ops from number n on, where this pair is at site 0, and these gates and reads
--- wait. Each pair has a pulse of its own. Before it come the gates that wait, the returns of the pair before
--- and the arrivals of its own. All reads come last.
+-- What is left to do for the ops from this number on, where this pair is at site 0 and these gates and reads wait. A
+-- one-qubit gate and a read are put to those that wait; a fence adds nothing. A pair adds the gates that wait, the
+-- returns, its own arrivals, and a pulse with it alone. At the end come the gates that wait, and then all reads.
 abbrev pub acts_from : Architecture → ℕ → Option (ℕ × ℕ) → List OneGate → List ReadOf → List Op → List Act
 acts_from a n at_site ones reads [] = gates_of ones ++ readout_of reads
 acts_from a n at_site ones reads (op.One q angles ∷ ops) =
@@ -84,6 +87,7 @@ acts_from a n at_site ones reads (op.Fence ∷ ops) = acts_from a (n + 1) at_sit
 acts_from a n at_site ones reads (op.Read q bit ∷ ops) =
     acts_from a (n + 1) at_site ones (reads ++ record { op = n; q = q; bit = bit } ∷ []) ops
 
--- the plan of a circuit
+-- The plan of a circuit: its homes, and then what is left to do for all its ops, with no pair at the site and nothing
+-- waiting.
 abbrev pub plan : Architecture → NativeCircuit → List Act
 plan a c = Init (homes_for c.qubits) ∷ acts_from a 0 None [] [] c.ops

@@ -12,6 +12,3 @@ mod planning;
 mod timeline;
 
 pub use planner::{PlanFault, compile};
-
-#[cfg(test)]
-mod tests;

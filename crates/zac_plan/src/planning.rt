@@ -2,13 +2,14 @@
 
 ghost use Rattle.std.specs.Prelude.{◌≡◌, ◌+◌, ◌*◌, ◌^◌, ◌<◌, ◌≤◌, All, OnOk, vec_len, length};
 ghost use Rattle.zac_plan.specs.Growth.{IsSite, AreTraps, HasHomes};
+ghost use Rattle.zair_form.specs.Ranges.{AnglesFit};
 
 use crate::build::Pair;
 use crate::timeline::{Site, Timeline};
 use std::alloc::Global;
 use std::mem;
 use zac_arch::Card;
-use zac_gates::{Memory, Op};
+use zac_gates::{Angles, Memory, Op};
 use zair_form::{OneGate, PairOf, ReadOf};
 
 /// The plan so far.
@@ -23,10 +24,19 @@ pub struct Planning {
     pub reads: Vec<ReadOf>,
 }
 
-impl Planning {
-    ghost use Rattle.zac_plan.specs.Pending.{Takes, TakesFirst, busy_until};
+/// Each `Angle` is the text of an angle: so says the contract of `bytes`.
+fn are_angles(angles: &Angles)
+    ensures { AnglesFit angles.now }
+{
+    let _theta = angles.theta.bytes();
+    let _phi = angles.phi.bytes();
+    let _lambda = angles.lambda.bytes();
+}
 
-    /// Takes the op of this number.
+impl Planning {
+    ghost use Rattle.zac_plan.specs.Pending.{PlansOp, PlansFirst, busy_until};
+
+    /// PlansOp the op of this number.
     fn take(
         &mut self,
         alloc: Global,
@@ -39,10 +49,11 @@ impl Planning {
         requires placed { AreTraps card.now self.old.at_site }
         requires homes { HasHomes card.now op.now }
         requires room { self.old.timeline.now + 1000000000 * vec_len self.old.ones + 14000000000 < 2 ^ 64 }
-        ensures takes { OnOk result (Takes card.now self.old self.new number op.now) }
+        ensures takes { OnOk result (PlansOp card.now self.old self.new number op.now) }
     {
         match op {
             Op::One { q, angles } => {
+                are_angles(angles);
                 let angles = angles.copy(alloc)?;
                 self.ones.push(OneGate {
                     op: number,
@@ -73,7 +84,7 @@ impl Planning {
         Ok(())
     }
 
-    /// Takes all ops, in their order.
+    /// PlansOp all ops, in their order.
     pub fn take_all(
         &mut self,
         alloc: Global,
@@ -86,7 +97,7 @@ impl Planning {
         requires homes { All (HasHomes card.now) ops.now }
         requires few { length ops.now ≤ 786432 }
         requires start { busy_until self.old ≡ 0 }
-        ensures takes { OnOk result (TakesFirst card.now self.old self.new ops.now (length ops.now)) }
+        ensures takes { OnOk result (PlansFirst card.now self.old self.new ops.now (length ops.now)) }
     {
         for (number, op) in ops.iter().enumerate() {
             self.take(alloc, card, site, number as u32, op)?;

@@ -114,6 +114,7 @@ impl Timeline {
     pub fn add_readout(&mut self, card: &Card, reads: Vec<ReadOf>) -> Result<(), Memory>
         requires { self.old.now + 1000000000 < 2 ^ 64 }
         ensures ok { OnOk result (GoesOn card.now.figures self.old self.new (readout_of reads.items)) }
+        ensures most { OnOk result (self.new.now ≤ self.old.now + 1000000000) }
     {
         if reads.is_empty() {
             return Ok(());

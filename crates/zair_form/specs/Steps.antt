@@ -9,7 +9,8 @@ use Rattle.zair_form.specs.declared.program.Act.{Act}
 use Rattle.zair_form.specs.declared.program.Act.TheVariants.{Init, Gates, Rydberg, Job, Readout}
 use Rattle.zair_form.specs.declared.program.Instr.{Instr}
 
--- the steps of an instruction, in their order
+-- The steps of an act, in order: none of `Init`, a one-qubit gate for each of the gates, one pulse, the steps of a
+-- job, one readout.
 abbrev pub steps_of : Act → List Step
 steps_of (Init homes) = []
 steps_of (Gates ones) = map (λ gate. One gate) ones
@@ -17,7 +18,7 @@ steps_of (Rydberg pairs) = Pulse pairs ∷ []
 steps_of (Job aod steps) = steps
 steps_of (Readout reads) = step.Readout reads ∷ []
 
--- a step of a job: beams of this AOD are switched on, moved or switched off
+-- The step is an activate, a move or a deactivate of this AOD.
 abbrev pub is_step_of : ℕ → Step → Bool
 is_step_of aod (Activate a rows columns atoms) = a == aod
 is_step_of aod (Move a rows columns) = a == aod
@@ -26,6 +27,7 @@ is_step_of aod (One gate) = false
 is_step_of aod (Pulse pairs) = false
 is_step_of aod (step.Readout reads) = false
 
+-- The act is `Init`.
 abbrev pub is_init : Act → Bool
 is_init (Init homes) = true
 is_init (Gates ones) = false
@@ -33,7 +35,7 @@ is_init (Rydberg pairs) = false
 is_init (Job aod steps) = false
 is_init (Readout reads) = false
 
--- a job has steps of its own AOD alone
+-- If the act is a job, each of its steps is a step of the job's own AOD.
 abbrev pub has_own_steps : Act → Bool
 has_own_steps (Init homes) = true
 has_own_steps (Gates ones) = true
@@ -41,16 +43,16 @@ has_own_steps (Rydberg pairs) = true
 has_own_steps (Job aod steps) = list_all (is_step_of aod) steps
 has_own_steps (Readout reads) = true
 
--- it may stand after the first instruction of a program
+-- The instruction is no `Init`, and if it is a job, it has steps of its own AOD alone.
 abbrev pub may_follow : Instr → Bool
 may_follow i = not (is_init i.act) && has_own_steps i.act
 
--- a program begins with its homes, and no other instruction gives homes
+-- The list has a first instruction, which is `Init`; each later one may follow. It is the invariant of a `Program`.
 abbrev pub is_program : List Instr → Bool
 is_program [] = false
 is_program (i ∷ is) = is_init i.act && list_all may_follow is
 
--- the homes that the first instruction gives
+-- The homes that an act gives; none if it is no `Init`.
 abbrev pub homes_of : Act → List TrapId
 homes_of (Init homes) = homes
 homes_of (Gates ones) = []
@@ -58,6 +60,7 @@ homes_of (Rydberg pairs) = []
 homes_of (Job aod steps) = []
 homes_of (Readout reads) = []
 
+-- The homes that the first instruction of a list gives.
 abbrev pub homes : List Instr → List TrapId
 homes [] = []
 homes (i ∷ is) = homes_of i.act

@@ -10,7 +10,7 @@ use Rattle.zair_form.specs.declared.step.Step.TheVariants.{Activate, Move, Deact
 use Rattle.zair_form.specs.declared.program.Instr.{Instr}
 use Rattle.zair_form.specs.Steps.{steps_of}
 
--- the positions that a step gives to row beams, and to column beams
+-- The positions that an activate or a move gives to row beams; none for the other steps.
 abbrev pub rows_set : Step → List Beam
 rows_set (Activate aod rows columns atoms) = rows
 rows_set (Move aod rows columns) = rows
@@ -19,6 +19,7 @@ rows_set (One gate) = []
 rows_set (Pulse pairs) = []
 rows_set (Readout reads) = []
 
+-- The same of column beams.
 abbrev pub columns_set : Step → List Beam
 columns_set (Activate aod rows columns atoms) = columns
 columns_set (Move aod rows columns) = columns
@@ -27,20 +28,21 @@ columns_set (One gate) = []
 columns_set (Pulse pairs) = []
 columns_set (Readout reads) = []
 
--- the last position that beam id was given
+-- The last position in the list of the beam of this id, if it has one.
 abbrev pub last_at : ℕ → List Beam → Option ℕ
 last_at id [] = None
 last_at id (b ∷ bs) = option_map_or Some (last_at id bs) (if b.id == id then Some b.at else None)
 
--- how far a beam goes from its last position; one without any goes nowhere, and no change counts as more
--- than 1,000,000
+-- How far a beam goes from its last position, at most 1,000,000; 0 where it has none.
 abbrev pub change : List Beam → Beam → ℕ
 change given b = option_map_or (λ at. min 1000000 (difference at b.at)) (last_at b.id given) 0
 
+-- The greatest change of these beams, and 0 where there are none.
 abbrev pub greatest_change : List Beam → List Beam → ℕ
 greatest_change given beams = fold max 0 (map (change given) beams)
 
--- After the earlier steps of its instruction, the step takes t nanoseconds.
+-- How long a step takes after the earlier ones of its instruction. A move takes the move time of its greatest changes
+-- of columns and rows; each other step takes the figure of its kind.
 abbrev pub Lasts : Figures → List Step → Step → ℕ → Type 0
 Lasts f earlier (Activate aod rows columns atoms) t = t ≡ f.activate
 Lasts f earlier (Move aod rows columns) t =
@@ -50,7 +52,7 @@ Lasts f earlier (One gate) t = t ≡ f.one
 Lasts f earlier (Pulse pairs) t = t ≡ f.pulse
 Lasts f earlier (Readout reads) t = t ≡ f.readout
 
--- a step with its time: the place of its instruction, its place there, and when it begins and ends
+-- A step with its times: the number of its instruction, its place there, the step, its begin and its end.
 pub record Timed : Type 0 where
   pub instr : ℕ
   pub place : ℕ
@@ -58,7 +60,8 @@ pub record Timed : Type 0 where
   pub begin : ℕ
   pub end : ℕ
 
--- t is the step after the earlier ones of the instruction of this number, and begins at this moment
+-- The timed step is this one of this instruction, has as place the count of the earlier steps, begins at this moment,
+-- and ends when it has lasted.
 pub record IsTimed (f : Figures) (number : ℕ) (earlier : List Step) (from : ℕ) (s : Step) (t : Timed) : Type 0 where
   pub instr : t.instr ≡ number
   pub place : t.place ≡ length earlier
@@ -68,7 +71,7 @@ pub record IsTimed (f : Figures) (number : ℕ) (earlier : List Step) (from : �
   pub lasts : Lasts f earlier s duration
   pub end : t.end ≡ from + duration
 
--- the steps of one instruction follow one another from this moment on
+-- The steps of one instruction, timed one after another, each beginning where the one before it ends.
 abbrev pub AreTimed : Figures → ℕ → List Step → ℕ → List Step → List Timed → Type 0
 AreTimed f instr earlier begin [] [] = Unit {0}
 AreTimed f instr earlier begin (s ∷ ss) (t ∷ ts) =
@@ -76,19 +79,19 @@ AreTimed f instr earlier begin (s ∷ ss) (t ∷ ts) =
 AreTimed f instr earlier begin [] (t ∷ ts) = ⊥
 AreTimed f instr earlier begin (s ∷ ss) [] = ⊥
 
--- all steps of the instructions, the first of which has this place, each from its instruction's begin on
+-- The timed steps of all instructions, in list order; those of an instruction begin at its begin.
 abbrev pub AreTimedSteps : Figures → ℕ → List Instr → List Timed → Type 0
 AreTimedSteps f place [] timed = timed ≡ []
 AreTimedSteps f place (i ∷ is) timed =
     (own : List Timed) × (rest : List Timed) × (timed ≡ own ++ rest)
     × AreTimed f place [] i.begin (steps_of i.act) own × AreTimedSteps f (place + 1) is rest
 
--- the steps, after the earlier ones, take t nanoseconds together
+-- The steps, after the earlier ones, take together this long.
 abbrev pub LastTogether : Figures → List Step → List Step → ℕ → Type 0
 LastTogether f earlier [] t = t ≡ 0
 LastTogether f earlier (s ∷ ss) t =
     (own : ℕ) × (rest : ℕ) × (t ≡ own + rest) × Lasts f earlier s own × LastTogether f (earlier ++ s ∷ []) ss rest
 
--- an instruction's end is its begin plus the durations of its steps
+-- The instruction's end is its begin and the time that its steps take together.
 abbrev pub HasLength : Figures → Instr → Type 0
 HasLength f i = (t : ℕ) × (i.end ≡ i.begin + t) × LastTogether f [] (steps_of i.act) t

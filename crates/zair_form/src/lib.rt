@@ -7,6 +7,3 @@ pub mod step;
 
 pub use program::{Act, Instr, Program};
 pub use step::{Beam, Caught, Dropped, OneGate, PairOf, ReadOf, Step};
-
-#[cfg(test)]
-mod tests;

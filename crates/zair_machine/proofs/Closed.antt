@@ -3,13 +3,14 @@ use Rattle.std.proofs.Common.{◌≡◌, ℕ, ◌+◌, ◌≤◌, ◌⊎◌, inl
 use Rattle.std.specs.List.{All, AllPairs, Contains, AllAdjacentBelow, slice_get}
 use Rattle.std.proofs.lemmas.List.Elements.{All-nil, All-cons}
 use Rattle.std.proofs.lemmas.List.Kept.{AllPairs-cons}
-use Rattle.zac_arch.specs.Architecture.{Architecture}
+use Rattle.zac_arch.specs.Architecture.{Architecture, StandsAt}
 use Rattle.zac_arch.specs.declared.place.Point.{Point}
 use Rattle.zac_arch.specs.declared.place.TrapId.{TrapId}
 use Rattle.zair_form.specs.declared.step.Beam.{Beam}
 use Rattle.zair_machine.specs.declared.place.Place.{Place}
 use Rattle.zair_machine.specs.declared.place.Place.TheVariants.{Trap}
-use Rattle.zair_machine.specs.State.{Beams, idle, IsFreeOfOthers, EachCrossing, ArePlaced}
+use Rattle.zair_machine.specs.Legal.{Picks}
+use Rattle.zair_machine.specs.State.{State, Beams, idle, IsAt, IsFreeOfOthers, EachCrossing, ArePlaced, crossing}
 
 pub no_element : {X : Type 0} (x : X) → Contains [] x → ⊥
 no_element x h = let lt = h.1 in absurd (omega arith)
@@ -56,6 +57,24 @@ pub free_alone : (a : Architecture) (places : List Place) (b : Beams) (p : Point
 free_alone a places b p zero ne row column r c = absurd (ne refl)
 free_alone a places b p (suc zero) ne row column r c = absurd (no_element row r)
 free_alone a places b p (suc (suc n)) ne row column r c = absurd (no_element row r)
+
+-- an atom is caught where a new row crosses one of the columns
+pub picks_in_row : (a : Architecture) (s : State) (columns : List Beam) (row column : Beam) (q : ℕ) (t : TrapId) →
+    Contains columns column → IsAt s q (Trap t) → StandsAt a t.0 (crossing row column) → IsFreeOfOthers a s 0 (crossing row column) →
+    Picks a s 0 (row ∷ []) columns (row ∷ []) columns (record { q = q; row = row.id; column = column.id })
+picks_in_row a s columns row column q t active rests exact free = record {
+  row = row;
+  column = column;
+  row_active = (0, omega arith, refl);
+  column_active = active;
+  row_named = refl;
+  column_named = refl;
+  new = inl (0, omega arith, refl);
+  trap = t;
+  rests = rests;
+  exact = exact;
+  free = free;
+}
 
 -- a qubit of two that is at a place is the one or the other
 pub at_of_two : (s t : Place) (q : ℕ) (place : Place) → slice_get (s ∷ t ∷ []) q ≡ Some place → ((q ≡ 0) × (s ≡ place)) ⊎ ((q ≡ 1) × (t ≡ place))

@@ -11,7 +11,7 @@ use Rattle.zair_machine.specs.Legal.{IsLegal, Picks, Drops, CarriesOverEmptyTrap
 use Rattle.zair_machine.specs.Result.{after}
 use Rattle.zair_machine.specs.Examples.{trap, beam}
 use Rattle.zair_machine.specs.Parking.{square_card, filled, caught_at, dropped_into, catch_lower, park_lower, catch_upper, fly, drop_lower, lower_upper, drop_upper}
-use Rattle.zair_machine.proofs.Closed.{no_element, is_one, all_one, all_two, pairs_none, pairs_one, pairs_two, placed_one, placed_two, free_alone}
+use Rattle.zair_machine.proofs.Closed.{picks_in_row, no_element, is_one, all_one, all_two, pairs_none, pairs_one, pairs_two, placed_one, placed_two, free_alone}
 use Rattle.zair_machine.proofs.Entangling.{fresh}
 use Rattle.zair_machine.proofs.Recursion.{crossings_of, nobody_at, clear_by_test}
 
@@ -53,32 +53,8 @@ catches_lower = record {
   rows_placed = placed_one 10 (beam 0 0) (lit≤ tt);
   columns_placed = placed_two 10 (beam 0 0) (beam 1 30) (lit≤ tt) (lit≤ tt);
   picks = all_two (Picks square_card filled 0 (beam 0 0 ∷ []) (beam 0 0 ∷ beam 1 30 ∷ []) (beam 0 0 ∷ []) (beam 0 0 ∷ beam 1 30 ∷ [])) (caught_at 0 0 0) (caught_at 1 0 1)
-      (record {
-        row = beam 0 0;
-        column = beam 0 0;
-        row_active = (0, lit< tt, refl);
-        column_active = (0, lit< tt, refl);
-        row_named = refl;
-        column_named = refl;
-        new = inl (0, lit< tt, refl);
-        trap = trap 0;
-        rests = refl;
-        exact = refl;
-        free = free_alone square_card filled.places _ _;
-      })
-      (record {
-        row = beam 0 0;
-        column = beam 1 30;
-        row_active = (0, lit< tt, refl);
-        column_active = (1, lit< tt, refl);
-        row_named = refl;
-        column_named = refl;
-        new = inl (0, lit< tt, refl);
-        trap = trap 1;
-        rests = refl;
-        exact = refl;
-        free = free_alone square_card filled.places _ _;
-      });
+      (picks_in_row square_card filled (beam 0 0 ∷ beam 1 30 ∷ []) (beam 0 0) (beam 0 0) 0 (trap 0) (0, lit< tt, refl) refl refl (free_alone square_card filled.places _ _))
+      (picks_in_row square_card filled (beam 0 0 ∷ beam 1 30 ∷ []) (beam 0 0) (beam 1 30) 1 (trap 1) (1, lit< tt, refl) refl refl (free_alone square_card filled.places _ _));
   once = pairs_two (λ (c d : Caught). (c.q ≢ d.q) × ¬ ((c.row ≡ d.row) × (c.column ≡ d.column))) (caught_at 0 0 0) (caught_at 1 0 1)
       ((λ e. absurd (omega arith)), (λ h. let e = h.1 in absurd (omega arith)));
   clear = crossings_of (beam 0 0 ∷ []) (beam 0 0 ∷ beam 1 30 ∷ [])

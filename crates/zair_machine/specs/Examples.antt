@@ -1,8 +1,8 @@
--- One worked example of the machine: on a small card two atoms are carried to a site, entangled, and turned.
+-- One worked example of the machine: on the tiny card two atoms are carried to a site, entangled, and turned.
 use Rattle.std.specs.Prelude.{ℕ, List, [], ◌∷◌}
 use Rattle.zac_arch.specs.Architecture.{Architecture}
+use Rattle.zac_arch.specs.Tiny.{tiny_architecture, tiny_figures}
 use Rattle.zac_arch.specs.declared.place.TrapId.{TrapId}
-use Rattle.zac_arch.specs.declared.card.Figures.{Figures}
 use Rattle.zac_arch.specs.declared.card.ZoneKind.TheVariants.{Storage, Entangling}
 use Rattle.zac_gates.specs.declared.angle.Angles.{Angles}
 use Rattle.zac_gates.specs.declared.circuit.Op.{Op}
@@ -16,41 +16,15 @@ use Rattle.zair_form.specs.declared.program.Act.TheVariants.{Job}
 use Rattle.zair_machine.specs.State.{State, opening}
 use Rattle.zair_machine.specs.Result.{after}
 
--- four storage traps in a row, and two sites above them
-abbrev pub small_figures : Figures
-small_figures = record {
-  gap = 10;
-  park = 10;
-  reach = 5;
-  radius = 60;
-  accel = 2750;
-  activate = 15000;
-  deactivate = 15000;
-  one = 52000;
-  pulse = 360;
-  readout = 1000000;
-  aods = 2;
-  rows = 4;
-  columns = 4;
-}
-
-abbrev pub small_card : Architecture
-small_card = record {
-  figures = small_figures;
-  zones =
-      record { kind = Storage; x = 0; y = 0; dx = 30; dy = 30; pair = 0; columns = 4; rows = 1 }
-      ∷ record { kind = Entangling; x = 0; y = 100; dx = 120; dy = 100; pair = 20; columns = 2; rows = 1 }
-      ∷ [];
-}
-
+-- The trap of this number.
 abbrev pub trap : ℕ → TrapId
 trap n = record { 0 = n }
 
--- qubit 0 rests in trap 0, and qubit 1 in trap 1
+-- On the small card, qubit 0 rests in trap 0 and qubit 1 in trap 1.
 abbrev pub start : State
-start = opening small_card (trap 0 ∷ trap 1 ∷ [])
+start = opening tiny_architecture (trap 0 ∷ trap 1 ∷ [])
 
--- the angles of a Hadamard gate, (pi/2), 0 and pi
+-- The angles of a Hadamard gate: (pi/2), 0 and pi.
 abbrev pub hadamard : Angles
 hadamard = record {
   theta = 40 ∷ 112 ∷ 105 ∷ 47 ∷ 50 ∷ 41 ∷ [];
@@ -58,48 +32,50 @@ hadamard = record {
   lambda = 112 ∷ 105 ∷ [];
 }
 
+-- A beam of this id at this position.
 abbrev pub beam : ℕ → ℕ → Beam
 beam id at = record { id = id; at = at }
 
--- a gate of op n on qubit 1
+-- A Hadamard gate on qubit 1, with this op number.
 abbrev pub turn : ℕ → Step
 turn n = One (record { op = n; q = 1; angles = hadamard })
 
--- both atoms are caught
+-- Both atoms are caught.
 abbrev pub catch_both : Step
 catch_both =
     Activate 0 (beam 0 0 ∷ []) (beam 0 0 ∷ beam 1 30 ∷ [])
     (record { q = 0; row = 0; column = 0 } ∷ record { q = 1; row = 0; column = 1 } ∷ [])
 
--- they go to the first site
+-- They go to the first site.
 abbrev pub carry_both : Step
 carry_both = Move 0 (beam 0 100 ∷ []) (beam 0 0 ∷ beam 1 20 ∷ [])
 
--- they are dropped, qubit 1 into this trap
+-- They are dropped, qubit 1 into this trap.
 abbrev pub drop_both : ℕ → Step
 drop_both t =
     Deactivate 0 (0 ∷ []) (0 ∷ 1 ∷ []) (record { q = 0; trap = trap 4 } ∷ record { q = 1; trap = trap t } ∷ [])
 
--- the pulse entangles them
+-- A pulse with the pair of qubits 0 and 1.
 abbrev pub entangle : Step
 entangle = Pulse (record { op = 1; a = 0; b = 1 } ∷ [])
 
+-- A gate, the carriage of both atoms to the first site, the pulse, and a gate.
 abbrev pub entangling_steps : List Step
 entangling_steps = turn 0 ∷ catch_both ∷ carry_both ∷ drop_both 5 ∷ entangle ∷ turn 2 ∷ []
 
--- `CX q[0],q[1]` as native ops
+-- A controlled not from qubit 0 to qubit 1 as native ops.
 abbrev pub controlled_not : List Op
 controlled_not = op.One 1 hadamard ∷ op.Two 0 1 ∷ op.One 1 hadamard ∷ []
 
--- the same steps, but qubit 1 is dropped where its crossing doesn't stand
+-- The same steps, but qubit 1 is dropped into another trap.
 abbrev pub dropped_astray : List Step
 dropped_astray = turn 0 ∷ catch_both ∷ carry_both ∷ drop_both 6 ∷ entangle ∷ turn 2 ∷ []
 
--- the same steps without the move
+-- The same steps without the move.
 abbrev pub never_carried : List Step
 never_carried = turn 0 ∷ catch_both ∷ drop_both 5 ∷ entangle ∷ turn 2 ∷ []
 
--- both beams of the columns are switched on over atoms that aren't listed
+-- Beams are switched on over both atoms, and no atom is listed.
 abbrev pub catch_none : Step
 catch_none = Activate 0 (beam 0 0 ∷ []) (beam 0 0 ∷ beam 1 30 ∷ []) []
 
@@ -107,12 +83,15 @@ catch_none = Activate 0 (beam 0 0 ∷ []) (beam 0 0 ∷ beam 1 30 ∷ []) []
 abbrev pub catch_one : Step
 catch_one = Activate 0 (beam 0 0 ∷ []) (beam 0 0 ∷ []) (record { q = 0; row = 0; column = 0 } ∷ [])
 
+-- It goes to the first site.
 abbrev pub raise_one : Step
 raise_one = Move 0 (beam 0 100 ∷ []) (beam 0 0 ∷ [])
 
+-- It is dropped there.
 abbrev pub drop_one : Step
 drop_one = Deactivate 0 (0 ∷ []) (0 ∷ []) (record { q = 0; trap = trap 4 } ∷ [])
 
+-- Those three steps.
 abbrev pub carry_one : List Step
 carry_one = catch_one ∷ raise_one ∷ drop_one ∷ []
 
@@ -120,39 +99,40 @@ carry_one = catch_one ∷ raise_one ∷ drop_one ∷ []
 abbrev pub held : State
 held = after start catch_one
 
+-- The state after the second of them.
 abbrev pub raised : State
 raised = after held raise_one
 
--- rows that are switched on, and nothing else
+-- Rows are switched on, and nothing else.
 abbrev pub rows_alone : List Beam → Step
 rows_alone rows = Activate 0 rows [] []
 
--- one row and one column are switched on over trap 0, for these atoms
+-- A row and a column are switched on over trap 0, for these atoms.
 abbrev pub cross_at_zero : List Caught → Step
 cross_at_zero atoms = Activate 0 (beam 0 0 ∷ []) (beam 0 0 ∷ []) atoms
 
--- the instruction that carries both
+-- The instruction that carries both atoms.
 abbrev pub carrying : Instr
 carrying = record { begin = 52000; end = 142453; act = Job 0 (catch_both ∷ carry_both ∷ drop_both 5 ∷ []) }
 
--- one of the figures and the pair distance changed
+-- The small card with another gap and another pair distance.
 abbrev pub card_with : ℕ → ℕ → Architecture
 card_with gap pair = record {
-  figures = record small_figures { gap = gap };
+  figures = record tiny_figures { gap = gap };
   zones =
       record { kind = Storage; x = 0; y = 0; dx = 30; dy = 30; pair = 0; columns = 4; rows = 1 }
       ∷ record { kind = Entangling; x = 0; y = 100; dx = 120; dy = 100; pair = pair; columns = 2; rows = 1 }
       ∷ [];
 }
 
--- ops that wait for one another through a shared qubit, through a fence, or because they are read
+-- Ops that wait for one another through a qubit, through a fence, or because they are read.
 abbrev pub waiting : List Op
 waiting = op.One 0 hadamard ∷ op.One 1 hadamard ∷ op.Fence ∷ op.One 2 hadamard ∷ op.Read 0 0 ∷ op.Two 1 2 ∷ []
 
--- qubit 0 is held halfway to the site by the first AOD
+-- Qubit 0 is held halfway to the site by the first AOD.
 abbrev pub halfway : State
 halfway = after held (Move 0 (beam 0 50 ∷ []) (beam 0 0 ∷ []))
 
--- the second AOD makes an empty crossing beside it, this far in x
+-- The second AOD makes an empty crossing, at this x, beside it.
 abbrev pub cross_beside : ℕ → Step
 cross_beside x = Activate 1 (beam 0 50 ∷ []) (beam 0 x ∷ []) []

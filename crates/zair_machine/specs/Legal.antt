@@ -14,7 +14,7 @@ use Rattle.zair_machine.specs.declared.place.Place.TheVariants.{Trap, Held}
 use Rattle.zair_machine.specs.State.{State, beams_of, IsAt, HasId, crossing, EachCrossing, IsFreeOfOthers, IsClear, ArePlaced, RestsLit, AreInRange}
 use Rattle.zair_machine.specs.Result.{with_beams}
 
--- no id is listed twice
+-- No id is listed twice.
 abbrev pub AreOnce : List ℕ → Type 0
 AreOnce ids = AllPairs (λ i j. i ≢ j) ids
 
@@ -23,14 +23,14 @@ pub record AreFresh (listed active : List Beam) : Type 0 where
   pub once : AreOnce (map (λ b. b.id) listed)
   pub inactive : All (λ b. ¬ HasId active b.id) listed
 
--- exactly the active beams are listed, each once
+-- The listed beams have distinct ids, which are exactly those of the active beams.
 pub record ListsActive (listed active : List Beam) : Type 0 where
   pub once : AreOnce (map (λ b. b.id) listed)
   pub only : All (λ b. HasId active b.id) listed
   pub all : All (λ b. HasId listed b.id) active
 
--- A listed atom's crossing has a new row or a new column, and stands exactly on the trap in which the atom
--- rests, free of others. The rows and columns are those after the step.
+-- A listed atom's crossing is of an active row and an active column, of which at least one is new; it stands exactly
+-- on the trap in which the atom rests, and is free of others.
 pub record Picks (a : Architecture) (s : State) (aod : ℕ) (new_rows new_columns rows columns : List Beam) (c : Caught) : Type 0 where
   pub row : Beam
   pub column : Beam
@@ -44,7 +44,9 @@ pub record Picks (a : Architecture) (s : State) (aod : ℕ) (new_rows new_column
   pub exact : StandsAt a trap.0 (crossing row column)
   pub free : IsFreeOfOthers a s aod (crossing row column)
 
--- the AOD switches on these beams and catches these atoms; rows and columns are its beams after it
+-- The AOD exists; its new beams are fresh; after the step it has at most as many rows and columns as the figures
+-- allow, all of them placed; each listed atom is picked; no atom and no crossing is listed twice; and every new
+-- crossing without a listed atom is clear.
 pub record IsLegalActivate (a : Architecture) (s : State) (aod : ℕ) (new_rows new_columns rows columns : List Beam) (atoms : List Caught) : Type 0 where
   pub known : aod < length s.aods
   pub rows_fresh : AreFresh new_rows (beams_of s aod).rows
@@ -60,7 +62,7 @@ pub record IsLegalActivate (a : Architecture) (s : State) (aod : ℕ) (new_rows 
   pub clear : EachCrossing rows columns (λ row column. HasId new_rows row.id ⊎ HasId new_columns column.id →
       ¬ Any (λ c. (c.row ≡ row.id) × (c.column ≡ column.id)) atoms → IsClear a s aod (crossing row column))
 
--- the crossing holds an atom and stands exactly on an empty trap, free of others
+-- The crossing holds an atom, stands exactly on a trap in which no qubit rests, and is free of others.
 pub record CarriesOverEmptyTrap (a : Architecture) (s : State) (aod : ℕ) (row column : Beam) : Type 0 where
   pub q : ℕ
   pub holds : IsAt s q (Held aod row.id column.id)
@@ -69,7 +71,8 @@ pub record CarriesOverEmptyTrap (a : Architecture) (s : State) (aod : ℕ) (row 
   pub empty : (r : ℕ) → ¬ IsAt s r (Trap trap)
   pub free : IsFreeOfOthers a s aod (crossing row column)
 
--- the AOD's beams go to these positions; rows and columns are they by rising id
+-- The AOD exists; exactly its active beams are listed; they are placed; and each crossing is clear, or carries an atom
+-- over an empty trap.
 pub record IsLegalMove (a : Architecture) (s : State) (aod : ℕ) (listed_rows listed_columns rows columns : List Beam) : Type 0 where
   pub known : aod < length s.aods
   pub rows_listed : ListsActive listed_rows (beams_of s aod).rows
@@ -79,7 +82,8 @@ pub record IsLegalMove (a : Architecture) (s : State) (aod : ℕ) (listed_rows l
   pub crossings : EachCrossing rows columns (λ row column.
       IsClear a s aod (crossing row column) ⊎ CarriesOverEmptyTrap a s aod row column)
 
--- a listed atom is held at a crossing of a listed beam, which stands exactly on the listed trap
+-- A listed atom is held at a crossing of active beams, of which at least one is switched off, and the crossing stands
+-- exactly on the listed trap.
 pub record Drops (a : Architecture) (s : State) (aod : ℕ) (rows columns : List ℕ) (d : Dropped) : Type 0 where
   pub row : Beam
   pub column : Beam
@@ -89,7 +93,8 @@ pub record Drops (a : Architecture) (s : State) (aod : ℕ) (rows columns : List
   pub vanishes : Contains rows row.id ⊎ Contains columns column.id
   pub exact : StandsAt a d.trap.0 (crossing row column)
 
--- the AOD switches off the beams of these ids and drops these atoms
+-- The AOD exists; the listed ids are active and none is listed twice; each listed atom is dropped so, and once; and
+-- each atom that is held at a row or a column that is switched off is listed.
 pub record IsLegalDeactivate (a : Architecture) (s : State) (aod : ℕ) (rows columns : List ℕ) (atoms : List Dropped) : Type 0 where
   pub known : aod < length s.aods
   pub rows_once : AreOnce rows
@@ -102,20 +107,23 @@ pub record IsLegalDeactivate (a : Architecture) (s : State) (aod : ℕ) (rows co
   pub all : (q row column : ℕ) → IsAt s q (Held aod row column) → Contains rows row ⊎ Contains columns column →
       Any (λ d. d.q ≡ q) atoms
 
--- the qubit rests in a trap
+-- The qubit rests in a trap.
 abbrev pub Rests : State → ℕ → Type 0
 Rests s q = (t : TrapId) × IsAt s q (Trap t)
 
--- the pair is q and r, in either order
+-- The pair has these two qubits, in either order.
 abbrev pub IsPairOf : PairOf → ℕ → ℕ → Type 0
 IsPairOf p q r = ((p.a ≡ q) × (p.b ≡ r)) ⊎ ((p.a ≡ r) × (p.b ≡ q))
 
--- the pairs in range are exactly the listed ones
+-- Each listed pair is in range, each two qubits in range are a listed pair, and no pair is listed twice in either
+-- order.
 pub record ListsPairsInRange (a : Architecture) (s : State) (pairs : List PairOf) : Type 0 where
   pub only : All (λ p. AreInRange a s p.a p.b) pairs
   pub all : (q r : ℕ) → AreInRange a s q r → Any (λ p. IsPairOf p q r) pairs
   pub once : AllPairs (λ p p'. ¬ IsPairOf p' p.a p.b) pairs
 
+-- Exactly the pairs in range are listed; each qubit that rests in a lit trap is in a listed pair; and no crossing of
+-- any AOD is lit.
 pub record IsLegalPulse (a : Architecture) (s : State) (pairs : List PairOf) : Type 0 where
   pub in_range : ListsPairsInRange a s pairs
   -- no atom is lit alone
@@ -123,7 +131,8 @@ pub record IsLegalPulse (a : Architecture) (s : State) (pairs : List PairOf) : T
   -- no crossing stands inside a lit box
   pub dark : (aod : ℕ) → EachCrossing (beams_of s aod).rows (beams_of s aod).columns (λ row column. ¬ IsLit a (crossing row column))
 
--- the step is legal in the state
+-- A step is legal in a state: an activate, a move, a deactivate or a pulse as above; a one-qubit gate where its qubit
+-- rests in a trap; a readout where each of its qubits does.
 abbrev pub IsLegal : Architecture → State → Step → Type 0
 IsLegal a s (Activate aod rows columns atoms) =
     IsLegalActivate a s aod rows columns (with_beams rows (beams_of s aod).rows) (with_beams columns (beams_of s aod).columns) atoms

@@ -11,13 +11,14 @@ use Rattle.zair_form.specs.declared.program.Act.TheVariants.{Init, Gates, Rydber
 use Rattle.zair_form.specs.declared.program.Instr.{Instr}
 use Rattle.zair_form.specs.Times.{rows_set, columns_set, last_at}
 
+-- The laser, an AOD, a qubit, or a trap.
 pub data Resource : Type 0 where
   Laser : Resource
   Aod : ℕ → Resource
   Qubit : ℕ → Resource
   Trap : ℕ → Resource
 
--- the positions at which a step switches on rows, and columns
+-- The positions at which an activate switches on rows; none for the other steps.
 abbrev pub rows_on : Step → List ℕ
 rows_on (Activate aod rows columns atoms) = map (λ b. b.at) rows
 rows_on (Move aod rows columns) = []
@@ -26,6 +27,7 @@ rows_on (One gate) = []
 rows_on (Pulse pairs) = []
 rows_on (step.Readout reads) = []
 
+-- The same of columns.
 abbrev pub columns_on : Step → List ℕ
 columns_on (Activate aod rows columns atoms) = map (λ b. b.at) columns
 columns_on (Move aod rows columns) = []
@@ -34,7 +36,7 @@ columns_on (One gate) = []
 columns_on (Pulse pairs) = []
 columns_on (step.Readout reads) = []
 
--- the ids of the rows, and of the columns, that a step switches off
+-- The ids of the rows that a deactivate switches off; none for the other steps.
 abbrev pub rows_off : Step → List ℕ
 rows_off (Activate aod rows columns atoms) = []
 rows_off (Move aod rows columns) = []
@@ -43,6 +45,7 @@ rows_off (One gate) = []
 rows_off (Pulse pairs) = []
 rows_off (step.Readout reads) = []
 
+-- The same of columns.
 abbrev pub columns_off : Step → List ℕ
 columns_off (Activate aod rows columns atoms) = []
 columns_off (Move aod rows columns) = []
@@ -51,31 +54,31 @@ columns_off (One gate) = []
 columns_off (Pulse pairs) = []
 columns_off (step.Readout reads) = []
 
--- the positions at which a job's rows stand last before they are switched off, after the earlier steps
+-- For each row that a step switches off, the last position that it was given before.
 abbrev pub last_rows : List Step → List Step → List ℕ
 last_rows earlier [] = []
 last_rows earlier (s ∷ ss) =
     filter_map (λ id. last_at id (flat_map rows_set earlier)) (rows_off s) ++ last_rows (earlier ++ s ∷ []) ss
 
--- the same of its columns
+-- The same of columns.
 abbrev pub last_columns : List Step → List Step → List ℕ
 last_columns earlier [] = []
 last_columns earlier (s ∷ ss) =
     filter_map (λ id. last_at id (flat_map columns_set earlier)) (columns_off s) ++ last_columns (earlier ++ s ∷ []) ss
 
--- trap t stands at one of these x and one of these y
+-- The trap stands at one of these x and one of these y.
 abbrev pub IsOnGrid : Architecture → List ℕ → List ℕ → ℕ → Type 0
 IsOnGrid a xs ys t = (p : Point) × StandsAt a t p × Contains xs p.x × Contains ys p.y
 
--- a trap of the grid from which the job takes its atoms
+-- The trap stands where a column and a row of the job are switched on.
 abbrev pub IsSource : Architecture → List Step → ℕ → Type 0
 IsSource a steps t = IsOnGrid a (flat_map columns_on steps) (flat_map rows_on steps) t
 
--- a trap of the grid to which it takes them
+-- The trap stands where a column and a row of the job stand last before they are switched off.
 abbrev pub IsTarget : Architecture → List Step → ℕ → Type 0
 IsTarget a steps t = IsOnGrid a (last_columns [] steps) (last_rows [] steps) t
 
--- a step of a job catches or drops the atom of this qubit
+-- The step catches or drops the atom of this qubit.
 abbrev pub Carries : Step → ℕ → Type 0
 Carries (Activate aod rows columns atoms) q = Any (λ c. c.q ≡ q) atoms
 Carries (Move aod rows columns) q = ⊥
@@ -84,9 +87,9 @@ Carries (One gate) q = ⊥
 Carries (Pulse pairs) q = ⊥
 Carries (step.Readout reads) q = ⊥
 
--- The instruction uses the resource. The first instruction uses everything. Gates and a readout use the laser
--- and their qubits. A pulse uses the laser, its qubits and all entangling traps. A job uses its AOD, its
--- qubits, and every trap of its source grid and its target grid.
+-- `Init` uses every resource. Gates and a readout use the laser and their qubits; a pulse uses the laser, its qubits
+-- and all traps whose numbers come after those of storage; a job uses its AOD, the qubits that it carries, and the
+-- traps of its source grid and its target grid.
 abbrev pub Uses : Architecture → Act → Resource → Type 0
 Uses a (Init homes) r = Unit {0}
 Uses a (Gates ones) Laser = Unit {0}
@@ -106,10 +109,10 @@ Uses a (Readout reads) (Aod n) = ⊥
 Uses a (Readout reads) (Qubit q) = Any (λ r. r.q ≡ q) reads
 Uses a (Readout reads) (Trap t) = ⊥
 
--- both use some resource
+-- Two acts use one resource.
 abbrev pub Conflict : Architecture → Act → Act → Type 0
 Conflict a x y = (r : Resource) × Uses a x r × Uses a y r
 
--- of two instructions that conflict, the earlier in the list has ended when the other begins
+-- Of two instructions that conflict, the earlier in the list ends at or before the begin of the other.
 abbrev pub AreApart : Architecture → List Instr → Type 0
 AreApart a program = AllPairs (λ i j. Conflict a i.act j.act → i.end ≤ j.begin) program

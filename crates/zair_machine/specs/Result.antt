@@ -10,35 +10,36 @@ use Rattle.zair_machine.specs.declared.place.Place.{Place}
 use Rattle.zair_machine.specs.declared.place.Place.TheVariants.{Trap, Held}
 use Rattle.zair_machine.specs.State.{State, Beams, beams_of}
 
--- the beams with one more, by rising id
+-- The beams with one more, put before the first beam of greater id.
 abbrev pub with_beam : Beam → List Beam → List Beam
 with_beam b [] = b ∷ []
 with_beam b (c ∷ cs) = if nat_lt b.id c.id then b ∷ c ∷ cs else c ∷ with_beam b cs
 
--- the beams with these too
+-- The beams with all of these put in so.
 abbrev pub with_beams : List Beam → List Beam → List Beam
 with_beams [] beams = beams
 with_beams (b ∷ bs) beams = with_beam b (with_beams bs beams)
 
--- the beams but those of these ids
+-- The beams but those of these ids.
 abbrev pub without_beams : List ℕ → List Beam → List Beam
 without_beams ids beams = filter (λ b. not (list_any (λ id. id == b.id) ids)) beams
 
--- the places after the AOD has caught these atoms
+-- The places once the listed atoms are held at the crossings that are listed with them.
 abbrev pub after_catching : ℕ → List Caught → List Place → List Place
 after_catching aod [] places = places
 after_catching aod (c ∷ cs) places = after_catching aod cs (slice_set places c.q (Held aod c.row c.column))
 
--- the places after these atoms have been dropped
+-- The places once the listed atoms rest in the traps that are listed with them.
 abbrev pub after_dropping : List Dropped → List Place → List Place
 after_dropping [] places = places
 after_dropping (d ∷ ds) places = after_dropping ds (slice_set places d.q (Trap d.trap))
 
--- the state with other beams at one AOD
+-- The state with other beams at one AOD.
 abbrev pub with_beams_of : State → ℕ → Beams → State
 with_beams_of s aod beams = record { places = s.places; aods = slice_set s.aods aod beams }
 
--- the state after the step, where it is legal
+-- The state after a step. An activate adds beams and its atoms are held; a move sets the beams anew; a deactivate
+-- removes beams and its atoms rest in their traps; gates, pulses and readouts change nothing.
 abbrev pub after : State → Step → State
 after s (Activate aod rows columns atoms) = record {
   places = after_catching aod atoms s.places;

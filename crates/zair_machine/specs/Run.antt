@@ -10,17 +10,18 @@ use Rattle.zair_machine.specs.State.{State}
 use Rattle.zair_machine.specs.Legal.{IsLegal}
 use Rattle.zair_machine.specs.Result.{after}
 
--- each step is legal in the state that the steps before it leave
+-- Each step is legal in the state that the steps before it leave.
 abbrev pub IsLegalRun : Architecture → State → List Step → Type 0
 IsLegalRun a s [] = Unit {0}
 IsLegalRun a s (step ∷ steps) = IsLegal a s step × IsLegalRun a (after s step) steps
 
--- the state after the steps
+-- The state after all the steps.
 abbrev pub after_all : State → List Step → State
 after_all s [] = s
 after_all s (step ∷ steps) = after_all (after s step) steps
 
--- the ops that a step performs, in its order
+-- The ops that a step performs, in its order, each with its number: those of a gate, a pulse or a readout; the other
+-- steps perform none.
 abbrev pub entries : Step → List Entry
 entries (Activate aod rows columns atoms) = []
 entries (Move aod rows columns) = []
@@ -29,6 +30,6 @@ entries (One gate) = record { op = gate.op; what = op.One gate.q gate.angles } �
 entries (Pulse pairs) = map (λ p. record { op = p.op; what = op.Two p.a p.b }) pairs
 entries (Readout reads) = map (λ r. record { op = r.op; what = op.Read r.q r.bit }) reads
 
--- the log of a list of steps
+-- The entries of all steps, in order.
 abbrev pub log_of : List Step → List Entry
 log_of steps = flat_map entries steps

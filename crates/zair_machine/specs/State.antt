@@ -14,58 +14,61 @@ pub record Beams : Type 0 where
   pub rows : List Beam
   pub columns : List Beam
 
--- an AOD without a beam
+-- An AOD without a beam.
 abbrev pub idle : Beams
 idle = record { rows = []; columns = [] }
 
--- the place of each qubit, and the beams of each AOD
+-- The place of each qubit, and the beams of each AOD.
 pub record State : Type 0 where
   pub places : List Place
   pub aods : List Beams
 
--- each qubit rests in its home, and no beam is active
+-- The state at the begin: each qubit rests in its home, and each AOD of the card is idle.
 abbrev pub opening : Architecture → List TrapId → State
 opening a homes = record { places = map (λ home. Trap home) homes; aods = replicate a.figures.aods idle }
 
+-- The qubit's place is this one.
 abbrev pub IsAt : State → ℕ → Place → Type 0
 IsAt s q place = slice_get s.places q ≡ Some place
 
+-- The beams of an AOD; none where the state has no such AOD.
 abbrev pub beams_of : State → ℕ → Beams
 beams_of s aod = slice_index_or s.aods aod idle
 
--- one of the beams has this id
+-- One of the beams has this id.
 abbrev pub HasId : List Beam → ℕ → Type 0
 HasId beams id = Contains (map (λ b. b.id) beams) id
 
--- where a row and a column cross
+-- The point with the x of a column beam and the y of a row beam.
 abbrev pub crossing : Beam → Beam → Point
 crossing row column = record { x = column.at; y = row.at }
 
--- P holds of each crossing of these beams
+-- The property holds of each of the rows with each of the columns.
 abbrev pub EachCrossing : List Beam → List Beam → (Beam → Beam → Type 0) → Type 0
 EachCrossing rows columns P = (row column : Beam) → Contains rows row → Contains columns column → P row column
 
--- p is farther than reach from every crossing of every other AOD
+-- The point is farther than the reach from every crossing of every other AOD.
 abbrev pub IsFreeOfOthers : Architecture → State → ℕ → Point → Type 0
 IsFreeOfOthers a s aod p =
     (other : ℕ) → other ≢ aod → EachCrossing (beams_of s other).rows (beams_of s other).columns
     (λ row column. IsFarther a.figures.reach p (crossing row column))
 
--- it is free of others, and farther than reach from every trap
+-- The point is free of others, and farther than the reach from every trap.
 pub record IsClear (a : Architecture) (s : State) (aod : ℕ) (p : Point) : Type 0 where
   pub free : IsFreeOfOthers a s aod p
   pub off_traps : All (λ trap. IsFarther a.figures.reach p trap) (trap_points a)
 
--- beams by rising id stand on the field, each at least gap above the one of next lower id
+-- Each beam stands at 1,000,000 or less, and each but the first is at least the gap above the one before it in the
+-- list.
 pub record ArePlaced (gap : ℕ) (beams : List Beam) : Type 0 where
   pub on_the_field : All (λ b. b.at ≤ 1000000) beams
   pub spaced : AllAdjacentBelow (λ b c. b.at + gap ≤ c.at) beams (length beams)
 
--- the qubit rests in a lit trap, which stands at p
+-- The qubit rests in a trap that stands at this point, and the point is lit.
 abbrev pub RestsLit : Architecture → State → ℕ → Point → Type 0
 RestsLit a s q p = (t : TrapId) × IsAt s q (Trap t) × StandsAt a t.0 p × IsLit a p
 
--- two atoms rest in lit traps within the blockade radius
+-- Two different qubits rest in lit traps that are within the blockade radius of one another.
 pub record AreInRange (a : Architecture) (s : State) (q r : ℕ) : Type 0 where
   pub two : q ≢ r
   pub q_at : Point

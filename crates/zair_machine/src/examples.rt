@@ -2,11 +2,12 @@
 
 ghost use Rattle.std.specs.Prelude.{◌≡◌, List, [], ◌∷◌, replicate, false, Some};
 ghost use Rattle.zac_arch.specs.Distances.{IsMoveTime, IsTimeEnough};
+ghost use Rattle.zac_arch.specs.Tiny.{tiny_architecture, tiny_figures};
 ghost use Rattle.zac_gates.specs.Log.{Realises};
 ghost use Rattle.zair_form.specs.declared.step.PairOf.{PairOf};
 ghost use Rattle.zair_form.specs.declared.step.Step.TheVariants.{Activate, Deactivate, Move, One, Pulse};
 ghost use Rattle.zair_form.specs.Times.{HasLength};
-ghost use Rattle.zair_machine.specs.Examples.{small_card, start, entangling_steps, controlled_not, dropped_astray, never_carried, catch_none, carry_one, entangle, carrying, held, raised, rows_alone, cross_at_zero, beam, trap, hadamard, card_with, halfway, cross_beside, waiting, small_figures};
+ghost use Rattle.zair_machine.specs.Examples.{start, entangling_steps, controlled_not, dropped_astray, never_carried, catch_none, carry_one, entangle, carrying, held, raised, rows_alone, cross_at_zero, beam, trap, hadamard, card_with, halfway, cross_beside, waiting};
 ghost use Rattle.zair_machine.specs.Legal.{IsLegal};
 ghost use Rattle.zair_machine.specs.Parking.{square_card, filled, parking_steps, parking, parking_job, later_job, later, catch_all_at_once};
 ghost use Rattle.zair_machine.specs.Resources.{Uses, Conflict, AreApart};
@@ -21,7 +22,7 @@ ghost use Rattle.zair_machine.specs.declared.place.Place.TheVariants.{Trap};
 
 /// Two atoms that are caught, carried to a site, dropped, and entangled between two gates: a legal run.
 pub fn entangling_is_legal()
-    ensures run { IsLegalRun small_card start entangling_steps }
+    ensures run { IsLegalRun tiny_architecture start entangling_steps }
     ensures end { after_all start entangling_steps ≡ record { places = Trap (trap 4) ∷ Trap (trap 5) ∷ []; aods = replicate 2 idle } }
 {}
 
@@ -32,24 +33,24 @@ pub fn entangling_realises()
 
 /// An atom that is dropped where its crossing doesn't stand: no legal run.
 pub fn dropping_astray_is_refused()
-    ensures { ¬ IsLegalRun small_card start dropped_astray }
+    ensures { ¬ IsLegalRun tiny_architecture start dropped_astray }
 {}
 
 /// Atoms that are dropped at the site without the move, and a pulse on atoms in storage: neither is legal.
 pub fn staying_is_refused()
-    ensures run { ¬ IsLegalRun small_card start never_carried }
-    ensures pulse { ¬ IsLegal small_card start entangle }
+    ensures run { ¬ IsLegalRun tiny_architecture start never_carried }
+    ensures pulse { ¬ IsLegal tiny_architecture start entangle }
 {}
 
 /// Beams that are switched on over an atom that isn't caught: not legal.
 pub fn catching_none_is_refused()
-    ensures { ¬ IsLegal small_card start catch_none }
+    ensures { ¬ IsLegal tiny_architecture start catch_none }
 {}
 
 /// One atom can be carried to a site alone, but then no pulse is legal.
 pub fn lone_atom_is_refused()
-    ensures run { IsLegalRun small_card start carry_one }
-    ensures pulse { (pairs : List PairOf) → ¬ IsLegal small_card (after_all start carry_one) (Pulse pairs) }
+    ensures run { IsLegalRun tiny_architecture start carry_one }
+    ensures pulse { (pairs : List PairOf) → ¬ IsLegal tiny_architecture (after_all start carry_one) (Pulse pairs) }
 {}
 
 /// The move of these steps, 10 along x and 100 along y, takes 60,453 nanoseconds, and no less is enough; so the
@@ -57,31 +58,31 @@ pub fn lone_atom_is_refused()
 pub fn carrying_takes()
     ensures time { IsMoveTime 2750 10 100 60453 }
     ensures less { ¬ IsTimeEnough 2750 10 100 60452 }
-    ensures job { HasLength small_figures carrying }
+    ensures job { HasLength tiny_figures carrying }
 {}
 
 /// Beams that aren't there, are there already, are too many, or stand wrong: none of these steps is legal.
 pub fn wrong_beams_are_refused()
-    ensures unknown { ¬ IsLegal small_card start (Activate 2 [] [] []) }
-    ensures twice { ¬ IsLegal small_card start (rows_alone (beam 0 0 ∷ beam 0 10 ∷ [])) }
-    ensures active { ¬ IsLegal small_card held (rows_alone (beam 0 50 ∷ [])) }
-    ensures inactive { ¬ IsLegal small_card start (Move 0 (beam 0 0 ∷ []) []) }
-    ensures left_out { ¬ IsLegal small_card held (Move 0 (beam 0 100 ∷ []) []) }
-    ensures many { ¬ IsLegal small_card start (rows_alone (beam 0 0 ∷ beam 1 10 ∷ beam 2 20 ∷ beam 3 30 ∷ beam 4 40 ∷ [])) }
-    ensures far { ¬ IsLegal small_card start (rows_alone (beam 0 1000001 ∷ [])) }
-    ensures order { ¬ IsLegal small_card start (rows_alone (beam 0 0 ∷ beam 1 0 ∷ [])) }
-    ensures gap { ¬ IsLegal small_card start (rows_alone (beam 0 0 ∷ beam 1 5 ∷ [])) }
+    ensures unknown { ¬ IsLegal tiny_architecture start (Activate 2 [] [] []) }
+    ensures twice { ¬ IsLegal tiny_architecture start (rows_alone (beam 0 0 ∷ beam 0 10 ∷ [])) }
+    ensures active { ¬ IsLegal tiny_architecture held (rows_alone (beam 0 50 ∷ [])) }
+    ensures inactive { ¬ IsLegal tiny_architecture start (Move 0 (beam 0 0 ∷ []) []) }
+    ensures left_out { ¬ IsLegal tiny_architecture held (Move 0 (beam 0 100 ∷ []) []) }
+    ensures many { ¬ IsLegal tiny_architecture start (rows_alone (beam 0 0 ∷ beam 1 10 ∷ beam 2 20 ∷ beam 3 30 ∷ beam 4 40 ∷ [])) }
+    ensures far { ¬ IsLegal tiny_architecture start (rows_alone (beam 0 1000001 ∷ [])) }
+    ensures order { ¬ IsLegal tiny_architecture start (rows_alone (beam 0 0 ∷ beam 1 0 ∷ [])) }
+    ensures gap { ¬ IsLegal tiny_architecture start (rows_alone (beam 0 0 ∷ beam 1 5 ∷ [])) }
 {}
 
 /// Atoms that are caught or dropped wrong, or driven into a full trap, and work on an atom that is held: none
 /// of these steps is legal.
 pub fn wrong_atoms_are_refused()
-    ensures touch { ¬ IsLegal small_card start (cross_at_zero []) }
-    ensures pick { ¬ IsLegal small_card start (cross_at_zero (record { q = 1; row = 0; column = 0 } ∷ [])) }
-    ensures drop { ¬ IsLegal small_card held (Deactivate 0 (0 ∷ []) (0 ∷ []) []) }
-    ensures full { ¬ IsLegal small_card held (Move 0 (beam 0 0 ∷ []) (beam 0 30 ∷ [])) }
-    ensures gate { ¬ IsLegal small_card raised (One (record { op = 0; q = 0; angles = hadamard })) }
-    ensures light { (pairs : List PairOf) → ¬ IsLegal small_card raised (Pulse pairs) }
+    ensures touch { ¬ IsLegal tiny_architecture start (cross_at_zero []) }
+    ensures pick { ¬ IsLegal tiny_architecture start (cross_at_zero (record { q = 1; row = 0; column = 0 } ∷ [])) }
+    ensures drop { ¬ IsLegal tiny_architecture held (Deactivate 0 (0 ∷ []) (0 ∷ []) []) }
+    ensures full { ¬ IsLegal tiny_architecture held (Move 0 (beam 0 0 ∷ []) (beam 0 30 ∷ [])) }
+    ensures gate { ¬ IsLegal tiny_architecture raised (One (record { op = 0; q = 0; angles = hadamard })) }
+    ensures light { (pairs : List PairOf) → ¬ IsLegal tiny_architecture raised (Pulse pairs) }
 {}
 
 /// Three atoms of a square are carried by one job that parks its beams, and the fourth stays untouched: a legal
@@ -89,7 +90,7 @@ pub fn wrong_atoms_are_refused()
 pub fn parking_is_legal()
     ensures run { IsLegalRun square_card filled parking_steps }
     ensures end { after_all filled parking_steps ≡ record { places = Trap (trap 4) ∷ Trap (trap 5) ∷ Trap (trap 6) ∷ Trap (trap 3) ∷ []; aods = replicate 2 idle } }
-    ensures length { HasLength small_figures parking }
+    ensures length { HasLength tiny_figures parking }
 {}
 
 /// The same three atoms caught by all rows and columns at once: a crossing stands on the fourth atom.
@@ -107,7 +108,7 @@ pub fn parking_conflicts()
 
 /// Both cards of these examples keep all rules.
 pub fn example_cards_keep_rules()
-    ensures small { KeepsRules small_card }
+    ensures small { KeepsRules tiny_architecture }
     ensures square { KeepsRules square_card }
 {}
 
@@ -138,6 +139,6 @@ pub fn ops_wait()
 
 /// An empty crossing of one AOD may stand 6 from a crossing of another one, but not 3, where the reach is 5.
 pub fn crossings_keep_apart()
-    ensures beside { IsLegal small_card halfway (cross_beside 6) }
-    ensures near { ¬ IsLegal small_card halfway (cross_beside 3) }
+    ensures beside { IsLegal tiny_architecture halfway (cross_beside 6) }
+    ensures near { ¬ IsLegal tiny_architecture halfway (cross_beside 3) }
 {}
