@@ -4,15 +4,15 @@ use Rattle.std.specs.List.{AllByRecursion, Any, slice_get}
 use Rattle.std.proofs.lemmas.Bool.{cases_eq}
 use Rattle.qasm_parse.specs.declared.stmt.Arg.{Arg}
 use Rattle.qasm_parse.specs.declared.stmt.Stmt.{Stmt}
-use Rattle.qasm_scope.specs.Names.{Environment, qubit_size, value_or}
-use Rattle.qasm_scope.specs.Environment.{environment}
-use Rattle.qasm_scope.specs.Applications.{times_by, applications, applied}
-use Rattle.qasm_scope.specs.Refusals.{SomeTwo, DifferInSize, IsPast}
+use Rattle.qasm_names.specs.Names.{Environment, qubit_size, value_or}
+use Rattle.qasm_names.specs.Environment.{environment}
+use Rattle.qasm_names.specs.Applications.{times_by, applications, applied}
+use Rattle.qasm_names.specs.Refusals.{SomeTwo, DifferInSize, IsPast}
 use Rattle.qasm_expand.specs.declared.kind.RegisterKind.{RegisterKind}
 use Rattle.qasm_expand.specs.declared.kind.RegisterKind.TheVariants as register
 use Rattle.qasm_expand.specs.RegisterKinds.{place_number, IsPlaceIn}
 use Rattle.qasm_expand.proofs.EnvironmentLemmas.{IsBare, size_in, size_declared}
-use Rattle.qasm_expand.proofs.NumberLemmas.{number-one}
+use Rattle.qasm_expand.proofs.NumberingLemmas.{number-one}
 use Rattle.qasm_expand.proofs.SoundItems.{AreDistinct, all_mapped}
 
 -- the argument is declared, and its index is in range

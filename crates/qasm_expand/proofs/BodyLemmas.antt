@@ -6,11 +6,11 @@ use Rattle.std.proofs.lemmas.Option.{slice_get_within}
 use Rattle.qasm_parse.specs.declared.stmt.Expr.{Expr}
 use Rattle.qasm_parse.specs.declared.stmt.Node.{Node}
 use Rattle.qasm_parse.specs.declared.stmt.Node.TheVariants as node
-use Rattle.qasm_scope.specs.declared.gate.Bound.{Bound}
-use Rattle.qasm_scope.specs.declared.gate.GateDef.{GateDef}
-use Rattle.qasm_scope.specs.declared.gate.Target.{Target}
-use Rattle.qasm_scope.specs.declared.gate.Target.TheVariants as target
-use Rattle.qasm_scope.specs.Bound.{NamesOneOf, Takes, IsWellBoundCall, IsWellBound}
+use Rattle.qasm_names.specs.declared.gate.Bound.{Bound}
+use Rattle.qasm_names.specs.declared.gate.GateDef.{GateDef}
+use Rattle.qasm_names.specs.declared.gate.Target.{Target}
+use Rattle.qasm_names.specs.declared.gate.Target.TheVariants as target
+use Rattle.qasm_names.specs.Bound.{NamesOneOf, TargetTakes, IsWellBoundCall, IsWellBound}
 use Rattle.qasm_expand.specs.AngleNodes.{IsOver, IsExprOver}
 use Rattle.qasm_expand.specs.Fit.{Suits}
 use Rattle.qasm_expand.specs.Top.{IsShort, AreShortIn, HaveShortNumbers}
@@ -18,7 +18,7 @@ use Rattle.qasm_expand.proofs.AdmissibleLemmas.{all_both}
 use Rattle.qasm_expand.proofs.SoundOps.{get_all}
 
 -- a call whose target stands before a gate suits it
-suits_from : (gates : List GateDef) (place exprs args : ℕ) (t : Target) → place < length gates → Takes gates place exprs args t → Suits gates t exprs args
+suits_from : (gates : List GateDef) (place exprs args : ℕ) (t : Target) → place < length gates → TargetTakes gates place exprs args t → Suits gates t exprs args
 suits_from gates place exprs args (target.Gate p) there (less, g, at, params, count) = (omega (arith, less, there), g, at, params, count)
 suits_from gates place exprs args target.U there h = h
 suits_from gates place exprs args target.Cx there h = h

@@ -5,8 +5,8 @@ use Rattle.std.specs.Result.{OnOk}
 use Rattle.std.specs.Option.{option_or}
 use Rattle.std.specs.List.{AllByRecursion}
 use Rattle.qasm_parse.specs.declared.stmt.Node.{Node}
-use Rattle.qasm_scope.specs.declared.gate.Target.{Target}
-use Rattle.qasm_scope.specs.declared.gate.Target.TheVariants as target
+use Rattle.qasm_names.specs.declared.gate.Target.{Target}
+use Rattle.qasm_names.specs.declared.gate.Target.TheVariants as target
 use Rattle.qasm_expand.specs.declared.walk.Walk.{Walk}
 use Rattle.qasm_expand.specs.declared.frame.Frame.{Frame}
 use Rattle.qasm_expand.specs.declared.fault.ExpandFault.{ExpandFault}
@@ -17,9 +17,9 @@ use Rattle.qasm_expand.specs.Items.Item.{Applied}
 use Rattle.qasm_expand.specs.Limits.{passed_by_angles, passed_by_calls}
 use Rattle.qasm_expand.specs.Native.{ops_on}
 use Rattle.qasm_expand.specs.Replacing.{inner}
-use Rattle.qasm_expand.specs.Walks.{Counts, Writes, OpensFrame, VisitsCall, IsSmall, passed_by_call}
-use Rattle.qasm_expand.proofs.FaultLemmas.{or_right_none, fault_same}
-use Rattle.qasm_expand.proofs.LimitLemmas.{passed_one, passed_angle_short}
+use Rattle.qasm_expand.specs.Walks.{Counts, AddsOps, OpensFrame, VisitsCall, IsSmall, passed_by_call}
+use Rattle.qasm_expand.proofs.FaultsLemmas.{or_right_none, fault_same}
+use Rattle.qasm_expand.proofs.LimitsLemmas.{passed_one, passed_angle_short}
 
 pub on_ok_map : {T E P Q : Type 0} (r : Result T E) → (P → Q) → OnOk r P → OnOk r Q
 on_ok_map (Ok x) f h = f h
@@ -33,7 +33,7 @@ pub opens_same : (t : Target) (before frames : List Frame) (angles made : List (
 opens_same t before frames angles made qubits chosen after e f g h =
     subst (λ x. OpensFrame frames t made x after) g (subst (λ x. OpensFrame frames t x qubits after) f (subst (λ x. OpensFrame x t angles qubits after) e h))
 
-pub applied_visit : (old mid new : Walk) (d : ℕ) (t : Target) (angles : List (List Node)) (qubits : List ℕ) → Counts old mid d angles → Writes mid new (ops_on t angles qubits) → VisitsCall old new (record { depth = d; item = Applied t angles qubits })
+pub applied_visit : (old mid new : Walk) (d : ℕ) (t : Target) (angles : List (List Node)) (qubits : List ℕ) → Counts old mid d angles → AddsOps mid new (ops_on t angles qubits) → VisitsCall old new (record { depth = d; item = Applied t angles qubits })
 applied_visit old mid new d t angles qubits c w = record {
   short = passed_one old.calls old.nodes (record { depth = d; item = Applied t angles qubits }) ∙ c.short;
   counted = w.calls ∙ c.calls;
@@ -42,7 +42,7 @@ applied_visit old mid new d t angles qubits c w = record {
 }
 
 -- a call that was counted and performed
-pub call_visit : (old mid new : Walk) (d depth : ℕ) (t : Target) (angles made : List (List Node)) (qubits chosen : List ℕ) → t ≢ target.Barrier → d ≡ depth → angles ≡ made → qubits ≡ chosen → Counts old mid d angles → Writes mid new (ops_on t angles qubits) → VisitsCall old new (record { depth = depth; item = inner t made chosen })
+pub call_visit : (old mid new : Walk) (d depth : ℕ) (t : Target) (angles made : List (List Node)) (qubits chosen : List ℕ) → t ≢ target.Barrier → d ≡ depth → angles ≡ made → qubits ≡ chosen → Counts old mid d angles → AddsOps mid new (ops_on t angles qubits) → VisitsCall old new (record { depth = depth; item = inner t made chosen })
 call_visit old mid new d depth t angles made qubits chosen not e f g c w =
     subst (λ (i : Item). VisitsCall old new (record { depth = depth; item = i })) (flip (inner_applied t made chosen not)) (subst (λ x. VisitsCall old new (record { depth = depth; item = Applied t made x })) g (subst (λ x. VisitsCall old new (record { depth = depth; item = Applied t x qubits })) f (subst (λ x. VisitsCall old new (record { depth = x; item = Applied t angles qubits })) e (applied_visit old mid new d t angles qubits c w))))
 

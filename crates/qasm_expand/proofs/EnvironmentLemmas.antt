@@ -6,10 +6,10 @@ use Rattle.std.specs.Str.{bytes_eq}
 use Rattle.std.proofs.lemmas.List.{append-nil}
 use Rattle.qasm_parse.specs.declared.stmt.Stmt.{Stmt}
 use Rattle.qasm_parse.specs.declared.stmt.Stmt.TheVariants as stmt
-use Rattle.qasm_scope.specs.declared.meaning.Meaning.{Meaning}
-use Rattle.qasm_scope.specs.declared.meaning.Meaning.TheVariants as means
-use Rattle.qasm_scope.specs.Names.{Environment, Declarations, own_meaning, meaning, qubit_size, bit_size, qubits_in, bits_in}
-use Rattle.qasm_scope.specs.Environment.{enter, after, opening, nothing, environment}
+use Rattle.qasm_names.specs.declared.meaning.Meaning.{Meaning}
+use Rattle.qasm_names.specs.declared.meaning.Meaning.TheVariants as means
+use Rattle.qasm_names.specs.Names.{Environment, Declarations, own_meaning, meaning, qubit_size, bit_size, qubits_in, bits_in}
+use Rattle.qasm_names.specs.Environment.{enter, enter_all, opening_names, no_names, environment}
 use Rattle.qasm_expand.specs.declared.kind.RegisterKind.{RegisterKind}
 use Rattle.qasm_expand.specs.declared.kind.RegisterKind.TheVariants as register
 use Rattle.qasm_expand.specs.RegisterKinds.{registers_in, registers_of}
@@ -33,11 +33,11 @@ header-enter : (e : Environment) (s : Stmt) → (enter e s).header ≡ e.header
 header-enter e (stmt.Gate name params args body at) = refl
 header-enter e other = refl
 
-pub header-after : (e : Environment) (ss : List Stmt) → (after e ss).header ≡ e.header
+pub header-after : (e : Environment) (ss : List Stmt) → (enter_all e ss).header ≡ e.header
 header-after e [] = refl
 header-after e (s ∷ ss) = header-after (enter e s) ss ∙ header-enter e s
 
-pub after-append : (e : Environment) (xs ys : List Stmt) → after e (xs ++ ys) ≡ after (after e xs) ys
+pub after-append : (e : Environment) (xs ys : List Stmt) → enter_all e (xs ++ ys) ≡ enter_all (enter_all e xs) ys
 after-append e [] ys = refl
 after-append e (x ∷ xs) ys = after-append (enter e x) xs ys
 
@@ -57,7 +57,7 @@ no_size : (n : ℕ) → None ≡ Some n → ⊥
 no_size n h = cc
 
 -- what is declared stays
-pub own_stays : (e : Environment) (ss : List Stmt) (test : List ℕ → Bool) (m : Meaning) → lookup test e.own ≡ Some m → lookup test (after e ss).own ≡ Some m
+pub own_stays : (e : Environment) (ss : List Stmt) (test : List ℕ → Bool) (m : Meaning) → lookup test e.own ≡ Some m → lookup test (enter_all e ss).own ≡ Some m
 own_stays e [] test m h = h
 own_stays e (s ∷ ss) test m h =
     own_stays (enter e s) ss test m (lookup-enter e s test ∙ ap (λ o. option_or o (lookup test (declared e s))) h)
@@ -120,7 +120,7 @@ none_in register.Qubit e other name h = refl
 none_in register.Bit e other name h = refl
 
 -- the register that a name stands for is the program's register of that name
-found_step : (kind : RegisterKind) (e : Environment) (s : Stmt) (ss : List Stmt) (name : List ℕ) (n : ℕ) (d : Option Meaning) → lookup (bytes_eq name) (declared e s) ≡ d → lookup (bytes_eq name) e.own ≡ None → lookup (bytes_eq name) (after (enter e s) ss).own ≡ Some (as_register kind n) → (lookup (bytes_eq name) (enter e s).own ≡ None → lookup (bytes_eq name) (registers_of kind ss) ≡ Some n) → lookup (bytes_eq name) (registers_of kind (s ∷ ss)) ≡ Some n
+found_step : (kind : RegisterKind) (e : Environment) (s : Stmt) (ss : List Stmt) (name : List ℕ) (n : ℕ) (d : Option Meaning) → lookup (bytes_eq name) (declared e s) ≡ d → lookup (bytes_eq name) e.own ≡ None → lookup (bytes_eq name) (enter_all (enter e s) ss).own ≡ Some (as_register kind n) → (lookup (bytes_eq name) (enter e s).own ≡ None → lookup (bytes_eq name) (registers_of kind ss) ≡ Some n) → lookup (bytes_eq name) (registers_of kind (s ∷ ss)) ≡ Some n
 found_step kind e s ss name n None is none found rest =
     let test = bytes_eq name in
     let still = lookup-enter e s test ∙ ap (λ o. option_or o (lookup test (declared e s))) none ∙ is in
@@ -131,7 +131,7 @@ found_step kind e s ss name n (Some m) is none found rest =
     let same : m ≡ as_register kind n = cc (own_stays (enter e s) ss test m now, found) in
     lookup-append test (registers_in kind s) (registers_of kind ss) ∙ ap (λ o. option_or o (lookup test (registers_of kind ss))) (found_in kind e s name n (is ∙ ap (λ x. Some x) same))
 
-pub register_found : (kind : RegisterKind) (ss : List Stmt) (e : Environment) (name : List ℕ) (n : ℕ) → lookup (bytes_eq name) e.own ≡ None → lookup (bytes_eq name) (after e ss).own ≡ Some (as_register kind n) → lookup (bytes_eq name) (registers_of kind ss) ≡ Some n
+pub register_found : (kind : RegisterKind) (ss : List Stmt) (e : Environment) (name : List ℕ) (n : ℕ) → lookup (bytes_eq name) e.own ≡ None → lookup (bytes_eq name) (enter_all e ss).own ≡ Some (as_register kind n) → lookup (bytes_eq name) (registers_of kind ss) ≡ Some n
 register_found kind [] e name n none found = absurd (no_name kind n (sym none ∙ found))
 register_found kind (s ∷ ss) e name n none found =
     found_step kind e s ss name n (lookup (bytes_eq name) (declared e s)) refl none found (λ still. register_found kind ss (enter e s) name n still found)
@@ -151,12 +151,12 @@ native_last register.Qubit false n None h = cc
 native_last register.Bit true n None h = cc
 native_last register.Bit false n None h = cc
 
-pub bare_header : (header : List Stmt) → IsBare header → NoRegisters (opening header).header
+pub bare_header : (header : List Stmt) → IsBare header → NoRegisters (opening_names header).header
 bare_header header bare kind name n h =
     let test = bytes_eq name in
-    let own = (after nothing header).own in
+    let own = (enter_all no_names header).own in
     let found = native_last kind (test (codes "cz")) n (lookup test own) (sym (lookup-append test own ((codes "cz", means.Native) ∷ [])) ∙ h) in
-    no_size n (sym (ap (λ rs. lookup test rs) (bare kind)) ∙ register_found kind header nothing name n refl found)
+    no_size n (sym (ap (λ rs. lookup test rs) (bare kind)) ∙ register_found kind header no_names name n refl found)
 
 -- the size of a register is what the file declares
 qubits_from : (o : Option Meaning) (n : ℕ) → qubits_in o ≡ Some n → o ≡ Some (means.Qubits n)
@@ -194,15 +194,15 @@ own_size register.Qubit e name n h = ap (λ o. qubits_in (option_or o (cond e.in
 own_size register.Bit e name n h = ap (λ o. bits_in (option_or o (cond e.included (lookup (bytes_eq name) e.header) None))) h
 
 -- it stays
-pub size_stays : (kind : RegisterKind) (e : Environment) (ss : List Stmt) (name : List ℕ) (n : ℕ) → NoRegisters e.header → size_in kind e name ≡ Some n → size_in kind (after e ss) name ≡ Some n
-size_stays kind e ss name n none h = own_size kind (after e ss) name n (own_stays e ss (bytes_eq name) (as_register kind n) (size_own kind e name n none h))
+pub size_stays : (kind : RegisterKind) (e : Environment) (ss : List Stmt) (name : List ℕ) (n : ℕ) → NoRegisters e.header → size_in kind e name ≡ Some n → size_in kind (enter_all e ss) name ≡ Some n
+size_stays kind e ss name n none h = own_size kind (enter_all e ss) name n (own_stays e ss (bytes_eq name) (as_register kind n) (size_own kind e name n none h))
 
 pub header_is : (header pre : List Stmt) → IsBare header → NoRegisters (environment header pre).header
-header_is header pre bare = subst NoRegisters (sym (header-after (opening header) pre)) (bare_header header bare)
+header_is header pre bare = subst NoRegisters (sym (header-after (opening_names header) pre)) (bare_header header bare)
 
 -- the size of a register behind some statements is that of the program's register of that name
 pub size_declared : (kind : RegisterKind) (header pre suf : List Stmt) (name : List ℕ) (n : ℕ) → IsBare header → size_in kind (environment header pre) name ≡ Some n → lookup (bytes_eq name) (registers_of kind (pre ++ suf)) ≡ Some n
 size_declared kind header pre suf name n bare h =
     let e = environment header pre in
     let own = own_stays e suf (bytes_eq name) (as_register kind n) (size_own kind e name n (header_is header pre bare) h) in
-    register_found kind (pre ++ suf) (opening header) name n refl (ap (λ (x : Environment). lookup (bytes_eq name) x.own) (after-append (opening header) pre suf) ∙ own)
+    register_found kind (pre ++ suf) (opening_names header) name n refl (ap (λ (x : Environment). lookup (bytes_eq name) x.own) (after-append (opening_names header) pre suf) ∙ own)

@@ -9,16 +9,16 @@ use Rattle.qasm_parse.specs.declared.stmt.Arg.{Arg}
 use Rattle.qasm_parse.specs.declared.stmt.Node.{Node}
 use Rattle.qasm_parse.specs.declared.stmt.Stmt.{Stmt}
 use Rattle.qasm_parse.specs.declared.stmt.Stmt.TheVariants as stmt
-use Rattle.qasm_scope.specs.declared.fault.ScopeKind.TheVariants as kind
-use Rattle.qasm_scope.specs.declared.gate.Bound.{Bound}
-use Rattle.qasm_scope.specs.declared.gate.GateDef.{GateDef}
-use Rattle.qasm_scope.specs.declared.gate.Target.{Target}
-use Rattle.qasm_scope.specs.declared.gate.Target.TheVariants as target
-use Rattle.qasm_scope.specs.Names.{Environment}
-use Rattle.qasm_scope.specs.Environment.{enter, environment, opening}
-use Rattle.qasm_scope.specs.Applications.{applications}
-use Rattle.qasm_scope.specs.Accepted.{Program, IsAdmissible, AreAdmissible}
-use Rattle.qasm_scope.specs.Bound.{Takes, IsWellBoundCall, IsWellBound}
+use Rattle.qasm_names.specs.declared.fault.ScopeKind.TheVariants as kind
+use Rattle.qasm_names.specs.declared.gate.Bound.{Bound}
+use Rattle.qasm_names.specs.declared.gate.GateDef.{GateDef}
+use Rattle.qasm_names.specs.declared.gate.Target.{Target}
+use Rattle.qasm_names.specs.declared.gate.Target.TheVariants as target
+use Rattle.qasm_names.specs.Names.{Environment}
+use Rattle.qasm_names.specs.Environment.{enter, environment, opening_names}
+use Rattle.qasm_names.specs.Applications.{applications}
+use Rattle.qasm_names.specs.Accepted.{Program, IsAdmissible, AreAdmissible}
+use Rattle.qasm_names.specs.Bound.{TargetTakes, IsWellBoundCall, IsWellBound}
 use Rattle.qasm_expand.specs.Expansion.{IsExpansion}
 use Rattle.qasm_expand.specs.Items.{Item, application, measurement, items_of, items_behind, program_items}
 use Rattle.qasm_expand.specs.Items.Item.{Applied, Barrier, Measured}
@@ -29,7 +29,7 @@ use Rattle.qasm_expand.proofs.EnvironmentLemmas.{after-append}
 use Rattle.qasm_expand.proofs.ExpandsLemmas.{expands_append}
 use Rattle.qasm_expand.proofs.GateLemmas.{target_in, call_suits}
 use Rattle.qasm_expand.proofs.SoundItems.{all_join}
-use Rattle.qasm_expand.proofs.CallTreeLemmas.{gate_there}
+use Rattle.qasm_expand.proofs.CallsLemmas.{gate_there}
 
 -- calls, and what they expand to
 pub record Expanded (gates : List GateDef) (items : List Item) : Type 0 where
@@ -51,7 +51,7 @@ abbrev GateExpands : List GateDef → ℕ → Type 0
 GateExpands gates place = (angles : List (List Node)) (qubits : List ℕ) → Expanded gates (Applied (target.Gate place) angles qubits ∷ [])
 
 module _ (gates : List GateDef) (bound : (place : ℕ) → IsWellBound gates place) where
-  expanded_inner : (n place exprs args : ℕ) (t : Target) (angles : List (List Node)) (qubits : List ℕ) → ((p : ℕ) → p < n → p < length gates → GateExpands gates p) → place < suc n → place < length gates → Takes gates place exprs args t → Expanded gates (inner t angles qubits ∷ [])
+  expanded_inner : (n place exprs args : ℕ) (t : Target) (angles : List (List Node)) (qubits : List ℕ) → ((p : ℕ) → p < n → p < length gates → GateExpands gates p) → place < suc n → place < length gates → TargetTakes gates place exprs args t → Expanded gates (inner t angles qubits ∷ [])
   expanded_inner n place exprs args (target.Gate p) angles qubits below less there takes =
       below p (omega (arith, takes.0, less)) (omega (arith, takes.0, there)) angles qubits
   expanded_inner n place exprs args target.U angles qubits below less there takes = expanded_plain gates _ refl
@@ -125,7 +125,7 @@ behind_there header pre (s ∷ suf) all is good =
     let there = CallsOneOf (environment header all).gates in
     let here : AllByRecursion there (items_of e all s) = subst (λ ss. AllByRecursion (CallsOneOf (environment header ss).gates) (items_of e ss s)) (sym is) (statement_there header pre (s ∷ suf) s good.0) in
     let later = behind_there header (pre ++ s ∷ []) suf all (is ∙ sym (append_assoc pre (s ∷ []) suf)) good.1 in
-    let rest : AllByRecursion there (items_behind (enter e s) all suf) = subst (λ (x : Environment). AllByRecursion there (items_behind x all suf)) (after-append (opening header) pre (s ∷ [])) later in
+    let rest : AllByRecursion there (items_behind (enter e s) all suf) = subst (λ (x : Environment). AllByRecursion there (items_behind x all suf)) (after-append (opening_names header) pre (s ∷ [])) later in
     all_join there (items_of e all s) (items_behind (enter e s) all suf) here rest
 
 -- such a program has a native list

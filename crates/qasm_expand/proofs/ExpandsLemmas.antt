@@ -1,12 +1,12 @@
 -- Expansions, one behind the other.
 use Rattle.std.proofs.Common.{List, ◌∷◌, ◌++◌, ap, sym as flip, ◌∙◌, append_assoc}
 use Rattle.std.specs.List.{AllByRecursion}
-use Rattle.qasm_scope.specs.declared.gate.GateDef.{GateDef}
-use Rattle.qasm_scope.specs.declared.gate.Target.TheVariants as target
+use Rattle.qasm_names.specs.declared.gate.GateDef.{GateDef}
+use Rattle.qasm_names.specs.declared.gate.Target.TheVariants as target
 use Rattle.qasm_expand.specs.Items.{Item}
 use Rattle.qasm_expand.specs.Items.Item.{Applied}
 use Rattle.qasm_expand.specs.Replacing.{Expands, plain, replaces, Replaces, IsPlain, body_of}
-use Rattle.qasm_expand.proofs.ClosedLemmas.{all_append}
+use Rattle.qasm_expand.proofs.AngleNodesLemmas.{all_append}
 
 -- what calls expand to has no call of a gate with a body
 pub expands_plain : {gates : List GateDef} {xs items : List Item} → Expands gates xs items → AllByRecursion IsPlain items

@@ -5,10 +5,10 @@ use Rattle.std.specs.List.{AllByRecursion, slice_get}
 use Rattle.std.proofs.lemmas.List.{length-reverse}
 use Rattle.std.proofs.lemmas.Option.{slice_get_read}
 use Rattle.qasm_parse.specs.declared.stmt.Node.{Node}
-use Rattle.qasm_scope.specs.declared.gate.Bound.{Bound}
-use Rattle.qasm_scope.specs.declared.gate.GateDef.{GateDef}
-use Rattle.qasm_scope.specs.declared.gate.Target.{Target}
-use Rattle.qasm_scope.specs.declared.gate.Target.TheVariants as target
+use Rattle.qasm_names.specs.declared.gate.Bound.{Bound}
+use Rattle.qasm_names.specs.declared.gate.GateDef.{GateDef}
+use Rattle.qasm_names.specs.declared.gate.Target.{Target}
+use Rattle.qasm_names.specs.declared.gate.Target.TheVariants as target
 use Rattle.qasm_expand.specs.declared.walk.Walk.{Walk}
 use Rattle.qasm_expand.specs.declared.frame.Frame.{Frame}
 use Rattle.qasm_expand.specs.declared.fault.ExpandFault.{ExpandFault}
@@ -20,12 +20,12 @@ use Rattle.qasm_expand.specs.Items.Item.{Applied}
 use Rattle.qasm_expand.specs.Replacing.{inner, body_call, body_of}
 use Rattle.qasm_expand.specs.Walks.{AreFit, OpensFrame, Steps, VisitsCall, VisitsFirst, angles_in, behind_call, call_of, pending, rest_of}
 use Rattle.qasm_parse.specs.declared.stmt.Expr.{Expr}
-use Rattle.qasm_expand.specs.AngleNodes.{IsClosed, IsExprOver}
-use Rattle.qasm_scope.specs.Bound.{IsWellBound}
+use Rattle.qasm_expand.specs.AngleNodes.{HasNoNames, IsExprOver}
+use Rattle.qasm_names.specs.Bound.{IsWellBound}
 use Rattle.qasm_expand.specs.Fit.{IsFit, Suits}
 use Rattle.qasm_expand.specs.Top.{HaveShortNumbers}
 use Rattle.qasm_expand.proofs.BodyLemmas.{BodyCall, body_call_at}
-use Rattle.qasm_expand.proofs.ClosedLemmas.{angles_closed}
+use Rattle.qasm_expand.proofs.AngleNodesLemmas.{angles_closed}
 
 some_same : {X : Type 0} {x y : X} → Some x ≡ Some y → x ≡ y
 some_same e = cc
@@ -88,7 +88,7 @@ opens_length target.Cx angles qubits before after h = omega (arith, ap (λ fs. l
 opens_length target.Cz angles qubits before after h = omega (arith, ap (λ fs. length fs) h)
 opens_length target.Barrier angles qubits before after h = omega (arith, ap (λ fs. length fs) h)
 
-pub opens_fit : (gates : List GateDef) (t : Target) (angles : List (List Node)) (qubits : List ℕ) (before after : List Frame) → OpensFrame before t angles qubits after → AreFit gates before → AllByRecursion IsClosed angles → Suits gates t (length angles) (length qubits) → AreFit gates after
+pub opens_fit : (gates : List GateDef) (t : Target) (angles : List (List Node)) (qubits : List ℕ) (before after : List Frame) → OpensFrame before t angles qubits after → AreFit gates before → AllByRecursion HasNoNames angles → Suits gates t (length angles) (length qubits) → AreFit gates after
 opens_fit gates (target.Gate place) angles qubits before after (f, p, n, a, q, e) fit closed suits =
     let same : Applied (target.Gate place) angles qubits ≡ call_of f = ap (λ (i : ℕ). Applied (target.Gate i) angles qubits) (flip p) ∙ ap (λ x. Applied (target.Gate f.place) x qubits) (flip a) ∙ ap (λ x. Applied (target.Gate f.place) f.angles x) (flip q) in
     subst (AreFit gates) (flip e) (subst (IsFit gates) same (closed, suits), fit)
@@ -97,7 +97,7 @@ opens_fit gates target.Cx angles qubits before after h fit closed suits = subst 
 opens_fit gates target.Cz angles qubits before after h fit closed suits = subst (AreFit gates) (flip h) fit
 opens_fit gates target.Barrier angles qubits before after h fit closed suits = subst (AreFit gates) (flip h) fit
 
-pub inner_fit : (gates : List GateDef) (t : Target) (angles : List (List Node)) (qubits : List ℕ) → AllByRecursion IsClosed angles → Suits gates t (length angles) (length qubits) → IsFit gates (inner t angles qubits)
+pub inner_fit : (gates : List GateDef) (t : Target) (angles : List (List Node)) (qubits : List ℕ) → AllByRecursion HasNoNames angles → Suits gates t (length angles) (length qubits) → IsFit gates (inner t angles qubits)
 inner_fit gates target.Barrier angles qubits closed suits = tt
 inner_fit gates (target.Gate place) angles qubits closed suits = (closed, suits)
 inner_fit gates target.U angles qubits closed suits = (closed, suits)
@@ -118,7 +118,7 @@ module _ (gates : List GateDef) (bound : (place : ℕ) → IsWellBound gates pla
   pub call_below : AllByRecursion (λ i. i < length f.qubits.items) b.args
   call_below = subst (λ n. AllByRecursion (λ i. i < n) b.args) (flip of_gate.1) of_call.below
 
-  pub call_closed : AllByRecursion IsClosed (angles_in g.params f.angles b.exprs)
+  pub call_closed : AllByRecursion HasNoNames (angles_in g.params f.angles b.exprs)
   call_closed = angles_closed g.params f.angles b.exprs of_gate.0 fit.0.0 of_call.over
 
   pub call_suits : Suits gates b.target (length (angles_in g.params f.angles b.exprs)) (length (map (λ i. get_or f.qubits.items i 0) b.args))

@@ -9,16 +9,16 @@ use Rattle.qasm_parse.specs.declared.stmt.BodyOp.{BodyOp}
 use Rattle.qasm_parse.specs.declared.stmt.Named.{Named}
 use Rattle.qasm_parse.specs.declared.stmt.Stmt.{Stmt}
 use Rattle.qasm_parse.specs.declared.stmt.Stmt.TheVariants as stmt
-use Rattle.qasm_scope.specs.declared.gate.GateDef.{GateDef}
-use Rattle.qasm_scope.specs.declared.gate.Target.{Target}
-use Rattle.qasm_scope.specs.declared.gate.Target.TheVariants as target
-use Rattle.qasm_scope.specs.declared.meaning.Callee.{Callee}
-use Rattle.qasm_scope.specs.declared.meaning.Callee.TheVariants as calls
-use Rattle.qasm_scope.specs.declared.meaning.Meaning.{Meaning}
-use Rattle.qasm_scope.specs.declared.meaning.Meaning.TheVariants as means
-use Rattle.qasm_scope.specs.Names.{Environment, Declarations, meaning, callee, callee_of, target_of, value_or}
-use Rattle.qasm_scope.specs.Environment.{bound_gate, enter, after, opening, nothing, environment}
-use Rattle.qasm_scope.specs.Refusals.{HasOtherParams, HasOtherArity}
+use Rattle.qasm_names.specs.declared.gate.GateDef.{GateDef}
+use Rattle.qasm_names.specs.declared.gate.Target.{Target}
+use Rattle.qasm_names.specs.declared.gate.Target.TheVariants as target
+use Rattle.qasm_names.specs.declared.meaning.Callee.{Callee}
+use Rattle.qasm_names.specs.declared.meaning.Callee.TheVariants as calls
+use Rattle.qasm_names.specs.declared.meaning.Meaning.{Meaning}
+use Rattle.qasm_names.specs.declared.meaning.Meaning.TheVariants as means
+use Rattle.qasm_names.specs.Names.{Environment, Declarations, meaning, callee, callee_of, target_of, value_or}
+use Rattle.qasm_names.specs.Environment.{bound_gate, enter, enter_all, opening_names, no_names, environment}
+use Rattle.qasm_names.specs.Refusals.{HasOtherParams, HasOtherArity}
 use Rattle.qasm_expand.specs.Fit.{Suits}
 use Rattle.qasm_expand.proofs.EnvironmentLemmas.{after-append}
 use Rattle.qasm_expand.proofs.AdmissibleLemmas.{same_number}
@@ -74,25 +74,25 @@ enter_known e (stmt.Opaque name params args at) h = record { own = all_join (λ 
 enter_known e (stmt.Include name at) h = record { own = h.own; header = h.header }
 enter_known e other h = h
 
-after_known : (e : Environment) (ss : List Stmt) → AreKnown e → AreKnown (after e ss)
+after_known : (e : Environment) (ss : List Stmt) → AreKnown e → AreKnown (enter_all e ss)
 after_known e [] h = h
 after_known e (s ∷ ss) h = after_known (enter e s) ss (enter_known e s h)
 
 pub environment_known : (header ss : List Stmt) → AreKnown (environment header ss)
 environment_known header ss =
-    let made = after_known nothing header (record { own = tt; header = tt }) in
-    after_known (opening header) ss (record { own = tt; header = all_join (λ d. IsKnown (after nothing header).gates d.1) (after nothing header).own _ made.own (tt, tt) })
+    let made = after_known no_names header (record { own = tt; header = tt }) in
+    after_known (opening_names header) ss (record { own = tt; header = all_join (λ d. IsKnown (enter_all no_names header).gates d.1) (enter_all no_names header).own _ made.own (tt, tt) })
 
 -- a gate stays
 gate_enter : (e : Environment) (s : Stmt) (place params args : ℕ) → HasGate e.gates place params args → HasGate (enter e s).gates place params args
 gate_enter e (stmt.Gate name ps qs body at) place params args h = gate_stays e.gates (bound_gate e ps qs body ∷ []) place params args h
 gate_enter e other place params args h = h
 
-gate_after : (e : Environment) (ss : List Stmt) (place params args : ℕ) → HasGate e.gates place params args → HasGate (after e ss).gates place params args
+gate_after : (e : Environment) (ss : List Stmt) (place params args : ℕ) → HasGate e.gates place params args → HasGate (enter_all e ss).gates place params args
 gate_after e [] place params args h = h
 gate_after e (s ∷ ss) place params args h = gate_after (enter e s) ss place params args (gate_enter e s place params args h)
 
-suits_after : (e : Environment) (ss : List Stmt) (t : Target) (params args : ℕ) → Suits e.gates t params args → Suits (after e ss).gates t params args
+suits_after : (e : Environment) (ss : List Stmt) (t : Target) (params args : ℕ) → Suits e.gates t params args → Suits (enter_all e ss).gates t params args
 suits_after e ss (target.Gate place) params args h = gate_after e ss place params args h
 suits_after e ss other params args h = h
 
@@ -154,4 +154,4 @@ call_suits header pre suf call p a =
     let e = environment header pre in
     let here = suits_callee e.gates (callee e call.name) call (callee_callable e call.name (environment_known header pre)) p a in
     let there = suits_after e suf (target_in e call) (length call.exprs) (length call.args) here in
-    subst (λ (x : Environment). Suits x.gates (target_in e call) (length call.exprs) (length call.args)) (sym (after-append (opening header) pre suf)) there
+    subst (λ (x : Environment). Suits x.gates (target_in e call) (length call.exprs) (length call.args)) (sym (after-append (opening_names header) pre suf)) there

@@ -4,19 +4,19 @@ use Rattle.std.specs.List.{range_with_len}
 use Rattle.qasm_parse.specs.declared.stmt.Arg.{Arg}
 use Rattle.qasm_parse.specs.declared.stmt.Stmt.{Stmt}
 use Rattle.qasm_parse.specs.declared.stmt.Stmt.TheVariants as stmt
-use Rattle.qasm_scope.specs.declared.fault.ScopeKind.TheVariants as kind
-use Rattle.qasm_scope.specs.Names.{Environment, qubit_size, bit_size, value_or}
-use Rattle.qasm_scope.specs.Environment.{enter, environment}
-use Rattle.qasm_scope.specs.Applications.{Place, times_by, applications, applied}
-use Rattle.qasm_scope.specs.Refusals.{SomeTwo, DifferInSize, ReadsUnevenly}
-use Rattle.qasm_scope.specs.Accepted.{IsAdmissible}
+use Rattle.qasm_names.specs.declared.fault.ScopeKind.TheVariants as kind
+use Rattle.qasm_names.specs.Names.{Environment, qubit_size, bit_size, value_or}
+use Rattle.qasm_names.specs.Environment.{enter, environment}
+use Rattle.qasm_names.specs.Applications.{Place, times_by, applications, applied}
+use Rattle.qasm_names.specs.Refusals.{SomeTwo, DifferInSize, ReadsUnevenly}
+use Rattle.qasm_names.specs.Accepted.{IsAdmissible}
 use Rattle.qasm_expand.specs.declared.kind.RegisterKind.TheVariants as register
 use Rattle.qasm_expand.specs.Items.{qubit_count, bit_count, measurement, items_of}
 use Rattle.qasm_expand.specs.RegisterKinds.{IsPlaceIn}
 use Rattle.qasm_expand.proofs.EnvironmentLemmas.{IsBare}
 use Rattle.qasm_expand.proofs.AdmissibleLemmas.{fine_args, place_of, same_size, places_of}
-use Rattle.qasm_expand.proofs.NumberLemmas.{number-below, number-one}
-use Rattle.qasm_expand.proofs.ReadLemmas.{IsFresh, ReadsSoFar, now_read}
+use Rattle.qasm_expand.proofs.NumberingLemmas.{number-below, number-one}
+use Rattle.qasm_expand.proofs.ApplicationsLemmas.{IsFresh, ReadsSoFar, now_read}
 use Rattle.qasm_expand.proofs.SoundItems.{IsSound, Spares, AllSpare}
 use Rattle.qasm_expand.proofs.StatementLemmas.{AreGood, all_range, all_map, numbers_fresh, call_good}
 

@@ -6,15 +6,15 @@ use Rattle.zac_gates.specs.declared.circuit.CircuitFault.{CircuitFault}
 use Rattle.zac_gates.specs.declared.circuit.CircuitFault.TheVariants as refused
 use Rattle.zac_gates.specs.declared.circuit.Op.{Op}
 use Rattle.qasm_parse.specs.declared.stmt.Stmt.{Stmt}
-use Rattle.qasm_scope.specs.Accepted.{Program, AreAdmissible}
-use Rattle.qasm_scope.specs.Environment.{environment}
-use Rattle.qasm_expand.specs.Answers.{Tells}
+use Rattle.qasm_names.specs.Accepted.{Program, AreAdmissible}
+use Rattle.qasm_names.specs.Environment.{environment}
+use Rattle.qasm_expand.specs.Answers.{TellsLimit}
 use Rattle.qasm_expand.specs.Expansion.{IsWithinLimits, PassesFirst, IsExpansion}
 use Rattle.qasm_expand.specs.Faults.{IsLimit}
 use Rattle.qasm_expand.specs.Items.{qubit_count, bit_count}
 use Rattle.qasm_expand.specs.Limits.{Passed, passed_before_calls}
 use Rattle.qasm_expand.specs.Top.{IsWalked}
-use Rattle.qasm_scope.specs.Bound.{IsWellBound}
+use Rattle.qasm_names.specs.Bound.{IsWellBound}
 use Rattle.qasm_expand.specs.declared.fault.ExpandFault.{ExpandFault}
 use Rattle.qasm_expand.specs.declared.fault.ExpandFault.TheVariants as fault
 use Rattle.qasm_expand.specs.declared.fault.LimitKind.{LimitKind}
@@ -24,7 +24,7 @@ use Rattle.qasm_expand.proofs.ProgramLemmas.{before_passes, within_passes_none, 
 use Rattle.qasm_expand.proofs.ValidityLemmas.{expansion_valid}
 
 -- a limit that is passed before the calls
-pub limit_tells : (p : Program) (passed : Option Passed) (e : ExpandFault) → passed ≡ passed_before_calls p.statements → IsLimit passed e → Tells p e
+pub limit_tells : (p : Program) (passed : Option Passed) (e : ExpandFault) → passed ≡ passed_before_calls p.statements → IsLimit passed e → TellsLimit p e
 limit_tells p passed (fault.Limit kind count) same h = before_passes p kind count (sym same ∙ h)
 limit_tells p passed fault.Memory same h = absurd h
 
@@ -53,12 +53,12 @@ never_refused c f n op h valid =
     cause.1.2 (valid n cause.1.0 cause.1.1)
 
 -- a program within the limits passes none
-pub memory_alone : {C : Type 0} (p : Program) (r : Result C ExpandFault) → IfErr r (Tells p) → IsWithinLimits p → IfErr r (λ e. e ≡ fault.Memory)
+pub memory_alone : {C : Type 0} (p : Program) (r : Result C ExpandFault) → IfErr r (TellsLimit p) → IsWithinLimits p → IfErr r (λ e. e ≡ fault.Memory)
 memory_alone p (Ok c) h w = tt
 memory_alone p (Err (fault.Limit kind count)) h w = absurd (within_passes_none p kind count w h)
 memory_alone p (Err fault.Memory) h w = refl
 
-pub limit_or_memory : {C : Type 0} (p : Program) (r : Result C ExpandFault) (kind : LimitKind) (count : ℕ) → IfOk r (λ c. IsWithinLimits p) → IfErr r (Tells p) → PassesFirst p kind count → IsErrAnd r (λ e. (e ≡ fault.Limit kind count) ⊎ (e ≡ fault.Memory))
+pub limit_or_memory : {C : Type 0} (p : Program) (r : Result C ExpandFault) (kind : LimitKind) (count : ℕ) → IfOk r (λ c. IsWithinLimits p) → IfErr r (TellsLimit p) → PassesFirst p kind count → IsErrAnd r (λ e. (e ≡ fault.Limit kind count) ⊎ (e ≡ fault.Memory))
 limit_or_memory p (Ok c) kind count w h f = absurd (within_passes_none p kind count w f)
 limit_or_memory p (Err (fault.Limit other more)) kind count w h f =
     let same = passes_once p other kind more count h f in

@@ -5,11 +5,11 @@ use Rattle.qasm_parse.specs.declared.stmt.Arg.{Arg}
 use Rattle.qasm_parse.specs.declared.stmt.BodyOp.{BodyOp}
 use Rattle.qasm_parse.specs.declared.stmt.Stmt.{Stmt}
 use Rattle.qasm_parse.specs.declared.stmt.Stmt.TheVariants as stmt
-use Rattle.qasm_scope.specs.declared.gate.Target.{Target}
-use Rattle.qasm_scope.specs.declared.gate.Target.TheVariants as target
-use Rattle.qasm_scope.specs.Accepted.{Program}
-use Rattle.qasm_scope.specs.Environment.{environment}
-use Rattle.qasm_scope.specs.Names.{callee, target_of, value_or}
+use Rattle.qasm_names.specs.declared.gate.Target.{Target}
+use Rattle.qasm_names.specs.declared.gate.Target.TheVariants as target
+use Rattle.qasm_names.specs.Accepted.{Program}
+use Rattle.qasm_names.specs.Environment.{environment}
+use Rattle.qasm_names.specs.Names.{callee, target_of, value_or}
 use Rattle.qasm_expand.specs.Calls.{at_depth}
 use Rattle.qasm_expand.specs.Items.{items_of}
 use Rattle.qasm_expand.specs.Top.{visits_of, readings_of, visits_in, visits_at}

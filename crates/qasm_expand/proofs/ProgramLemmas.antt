@@ -5,14 +5,14 @@ use Rattle.std.specs.List.{flat_map}
 use Rattle.std.proofs.lemmas.List.{append-nil}
 use Rattle.zac_gates.specs.declared.circuit.Op.{Op}
 use Rattle.zac_gates.specs.declared.circuit.Op.TheVariants.{One, Two, Fence, Read}
-use Rattle.qasm_scope.specs.declared.gate.Target.TheVariants as target
-use Rattle.qasm_scope.specs.declared.gate.GateDef.{GateDef}
-use Rattle.qasm_scope.specs.Environment.{environment}
-use Rattle.qasm_scope.specs.Accepted.{Program}
+use Rattle.qasm_names.specs.declared.gate.Target.TheVariants as target
+use Rattle.qasm_names.specs.declared.gate.GateDef.{GateDef}
+use Rattle.qasm_names.specs.Environment.{environment}
+use Rattle.qasm_names.specs.Accepted.{Program}
 use Rattle.qasm_expand.specs.declared.walk.Walk.{Walk}
 use Rattle.qasm_expand.specs.declared.fault.LimitKind.{LimitKind}
 use Rattle.qasm_expand.specs.declared.fault.ExpandFault.TheVariants as fault
-use Rattle.qasm_expand.specs.Calls.{Visit, Visits, none}
+use Rattle.qasm_expand.specs.Calls.{Visit, VisitsInOrder, none}
 use Rattle.qasm_expand.specs.Expansion.{IsExpansion, IsWithinLimits, PassesFirst, top_calls}
 use Rattle.qasm_expand.specs.Items.{Item, program_items}
 use Rattle.qasm_expand.specs.Items.Item.{Applied, Barrier, Measured}
@@ -20,10 +20,10 @@ use Rattle.qasm_expand.specs.Limits.{Passed, passed_before_calls, passed_by_call
 use Rattle.qasm_expand.specs.Native.{native_circuit, native_ops, pairs_in}
 use Rattle.qasm_expand.specs.Replacing.{Expands}
 use Rattle.qasm_expand.specs.Walks.{Passes, Walks, nodes_of}
-use Rattle.qasm_expand.proofs.FaultLemmas.{or_left_none}
-use Rattle.qasm_expand.proofs.LimitLemmas.{passed_append}
+use Rattle.qasm_expand.proofs.FaultsLemmas.{or_left_none}
+use Rattle.qasm_expand.proofs.LimitsLemmas.{passed_append}
 use Rattle.qasm_expand.proofs.VisitLemmas.{GoesOn, visits_compare, visits_end}
-use Rattle.qasm_expand.proofs.WalkLemmas.{items_at_depth}
+use Rattle.qasm_expand.proofs.WalksLemmas.{items_at_depth}
 
 some_same : {X : Type 0} {x y : X} → Some x ≡ Some y → x ≡ y
 some_same e = cc
@@ -42,7 +42,7 @@ front_passes calls nodes xs ys p h =
     passed_append calls nodes xs ys ∙ ap (λ o. option_or o (passed_by_calls (calls + length xs) (nodes + nodes_of xs) ys)) h
 
 -- two visits of the same calls that each come to a limit come to the same
-pub limit_once : (gates : List GateDef) (calls nodes : ℕ) (xs visited left others last : List Visit) (p q : Passed) → Visits gates xs visited left → Visits gates xs others last → passed_by_calls calls nodes visited ≡ Some p → passed_by_calls calls nodes others ≡ Some q → p ≡ q
+pub limit_once : (gates : List GateDef) (calls nodes : ℕ) (xs visited left others last : List Visit) (p q : Passed) → VisitsInOrder gates xs visited left → VisitsInOrder gates xs others last → passed_by_calls calls nodes visited ≡ Some p → passed_by_calls calls nodes others ≡ Some q → p ≡ q
 limit_once gates calls nodes xs visited left others last p q h k passes also = by_longer (visits_compare h k)
   where
     by_longer : GoesOn gates visited left others last ⊎ GoesOn gates others last visited left → p ≡ q
@@ -52,7 +52,7 @@ limit_once gates calls nodes xs visited left others last p q h k passes also = b
         some_same (flip passes ∙ ap (passed_by_calls calls nodes) g.is ∙ front_passes calls nodes others g.more q also)
 
 -- where all visits pass no limit, no visits do
-pub limit_never : (gates : List GateDef) (calls nodes : ℕ) (xs visited others last : List Visit) (p : Passed) → Visits gates xs visited [] → Visits gates xs others last → passed_by_calls calls nodes visited ≡ None → passed_by_calls calls nodes others ≡ Some p → ⊥
+pub limit_never : (gates : List GateDef) (calls nodes : ℕ) (xs visited others last : List Visit) (p : Passed) → VisitsInOrder gates xs visited [] → VisitsInOrder gates xs others last → passed_by_calls calls nodes visited ≡ None → passed_by_calls calls nodes others ≡ Some p → ⊥
 limit_never gates calls nodes xs visited others last p h k short passes = by_longer (visits_compare h k)
   where
     differ : None ≡ Some p → ⊥

@@ -4,10 +4,10 @@ use Rattle.std.specs.List.{flat_map, slice_get, range_with_len}
 use Rattle.std.proofs.lemmas.List.{append-nil, map-append, take_at, length-append}
 use Rattle.std.proofs.lemmas.List.Concat.{flat_map-append}
 use Rattle.qasm_parse.specs.declared.stmt.Stmt.{Stmt}
-use Rattle.qasm_scope.specs.Names.{Environment}
-use Rattle.qasm_scope.specs.declared.gate.GateDef.{GateDef}
-use Rattle.qasm_scope.specs.Accepted.{Program}
-use Rattle.qasm_scope.specs.Environment.{enter, environment, opening}
+use Rattle.qasm_names.specs.Names.{Environment}
+use Rattle.qasm_names.specs.declared.gate.GateDef.{GateDef}
+use Rattle.qasm_names.specs.Accepted.{Program}
+use Rattle.qasm_names.specs.Environment.{enter, environment, opening_names}
 use Rattle.qasm_expand.specs.Calls.{at_depth}
 use Rattle.qasm_expand.specs.Expansion.{top_calls}
 use Rattle.qasm_expand.specs.Items.{items_of, items_behind}
@@ -17,7 +17,7 @@ use Rattle.qasm_expand.specs.declared.fault.ExpandFault.{ExpandFault}
 use Rattle.qasm_expand.specs.declared.walk.Walk.{Walk}
 use Rattle.qasm_expand.proofs.EnvironmentLemmas.{after-append}
 use Rattle.qasm_expand.proofs.TopCalls.{ranges_same, range_split}
-use Rattle.qasm_expand.proofs.WalkLemmas.{walks_append, passes_first, passes_second}
+use Rattle.qasm_expand.proofs.WalksLemmas.{walks_append, passes_first, passes_second}
 
 below_split : (p : Program) (i m : ℕ) → visits_below p (i + suc m) ≡ visits_below p i ++ (visits_at p i ++ flat_map (visits_at p) (range_with_len (i + 1) m))
 below_split p i m =
@@ -61,7 +61,7 @@ behind_visits header pre (s ∷ suf) all is =
     let p : Program = record { header = header; statements = all } in
     let more = behind_visits header (pre ++ s ∷ []) suf all (is ∙ sym (append_assoc pre (s ∷ []) suf)) in
     let count : length (pre ++ s ∷ []) ≡ length pre + 1 = length-append pre (s ∷ []) in
-    let rest : at_depth 1 (items_behind (enter e s) all suf) ≡ flat_map (visits_at p) (range_with_len (length pre + 1) (length suf)) = ap (λ (x : Environment). at_depth 1 (items_behind x all suf)) (sym (after-append (opening header) pre (s ∷ []))) ∙ more ∙ ap (λ n. flat_map (visits_at p) (range_with_len n (length suf))) count in
+    let rest : at_depth 1 (items_behind (enter e s) all suf) ≡ flat_map (visits_at p) (range_with_len (length pre + 1) (length suf)) = ap (λ (x : Environment). at_depth 1 (items_behind x all suf)) (sym (after-append (opening_names header) pre (s ∷ []))) ∙ more ∙ ap (λ n. flat_map (visits_at p) (range_with_len n (length suf))) count in
     map-append _ (items_of e all s) (items_behind (enter e s) all suf) ∙ ap (λ xs. xs ++ at_depth 1 (items_behind (enter e s) all suf)) (sym (at_behind header pre suf all s is)) ∙ ap (λ xs. visits_at p (length pre) ++ xs) rest
 
 pub all_visits : (p : Program) → visits_below p (length p.statements) ≡ top_calls p

@@ -9,18 +9,18 @@ use Rattle.qasm_parse.specs.declared.stmt.Node.{Node}
 use Rattle.qasm_parse.specs.declared.stmt.Node.TheVariants as node
 use Rattle.qasm_parse.specs.declared.stmt.Stmt.{Stmt}
 use Rattle.qasm_parse.specs.declared.stmt.Stmt.TheVariants as stmt
-use Rattle.qasm_scope.specs.declared.fault.ScopeKind.TheVariants as kind
-use Rattle.qasm_scope.specs.declared.gate.Bound.{Bound}
-use Rattle.qasm_scope.specs.Names.{Environment, qubit_size, value_or}
-use Rattle.qasm_scope.specs.Environment.{environment}
-use Rattle.qasm_scope.specs.Applications.{applications, times_by}
-use Rattle.qasm_scope.specs.Accepted.{IsAdmissible, AreAdmissible}
-use Rattle.qasm_scope.specs.Refusals.{UsesOther, UsesOtherIn}
-use Rattle.qasm_scope.specs.Scopes.{AreAdmissibleInHeader, IsVersionOrGate}
+use Rattle.qasm_names.specs.declared.fault.ScopeKind.TheVariants as kind
+use Rattle.qasm_names.specs.declared.gate.Bound.{Bound}
+use Rattle.qasm_names.specs.Names.{Environment, qubit_size, value_or}
+use Rattle.qasm_names.specs.Environment.{environment}
+use Rattle.qasm_names.specs.Applications.{applications, times_by}
+use Rattle.qasm_names.specs.Accepted.{IsAdmissible, AreAdmissible}
+use Rattle.qasm_names.specs.Refusals.{UsesOther, UsesOtherIn}
+use Rattle.qasm_names.specs.Scopes.{AreAdmissibleInHeader, IsVersionOrGate}
 use Rattle.qasm_expand.specs.declared.kind.RegisterKind.{RegisterKind}
 use Rattle.qasm_expand.specs.declared.kind.RegisterKind.TheVariants as register
 use Rattle.qasm_expand.specs.declared.fault.LimitKind.TheVariants as limit
-use Rattle.qasm_expand.specs.AngleNodes.{IsOver, IsClosed}
+use Rattle.qasm_expand.specs.AngleNodes.{IsOver, HasNoNames}
 use Rattle.qasm_expand.specs.Limits.{Passed, beyond, literal_of, literals_in, statement_literals, passed_by_literals}
 use Rattle.qasm_expand.specs.RegisterKinds.{registers_in, registers_of}
 use Rattle.qasm_expand.specs.Sized.{sized}
@@ -29,7 +29,7 @@ use Rattle.qasm_expand.proofs.BeforeLemmas.{both_none, not_beyond}
 use Rattle.qasm_expand.proofs.EnvironmentLemmas.{IsBare, size_declared}
 use Rattle.qasm_expand.proofs.ExtentLemmas.{none_from_test}
 use Rattle.qasm_expand.proofs.AdmissibleLemmas.{IsAdmissibleArg, any_head, any_tail}
-use Rattle.qasm_expand.proofs.LiteralLemmas.{passed_by_literals-append}
+use Rattle.qasm_expand.proofs.LiteralsLemmas.{passed_by_literals-append}
 use Rattle.qasm_expand.proofs.SizedLemmas.{qubit_size-sized}
 
 -- the header declares no registers
@@ -104,17 +104,17 @@ closed_node (node.Number text) short not = short
 closed_node (node.Name name at) short not = absurd (not at (contains_none name, refl))
 closed_node other short not = tt
 
-closed_nodes : (ns : List Node) → AllByRecursion IsShort ns → ((at : ℕ) → Any (UsesOther [] at) ns → ⊥) → IsClosed ns
+closed_nodes : (ns : List Node) → AllByRecursion IsShort ns → ((at : ℕ) → Any (UsesOther [] at) ns → ⊥) → HasNoNames ns
 closed_nodes [] short not = tt
 closed_nodes (n ∷ ns) short not =
     (closed_node n short.0 (λ at h. not at (any_head (UsesOther [] at) n ns h)), closed_nodes ns short.1 (λ at h. not at (any_tail (UsesOther [] at) n ns h)))
 
-closed_exprs : (exprs : List Expr) → AreShortIn exprs → ((at : ℕ) → UsesOtherIn [] exprs at → ⊥) → AllByRecursion IsClosed exprs
+closed_exprs : (exprs : List Expr) → AreShortIn exprs → ((at : ℕ) → UsesOtherIn [] exprs at → ⊥) → AllByRecursion HasNoNames exprs
 closed_exprs [] short not = tt
 closed_exprs (expr ∷ exprs) short not =
     (closed_nodes expr short.0 (λ at h. not at (any_head (λ (x : Expr). Any (UsesOther [] at) x) expr exprs h)), closed_exprs exprs short.1 (λ at h. not at (any_tail (λ (x : Expr). Any (UsesOther [] at) x) expr exprs h)))
 
-pub call_closed : (header ss : List Stmt) (i : ℕ) (call : BodyOp) → IsAdmissible header (take i ss) (stmt.Call call) → passed_by_literals (flat_map statement_literals ss) ≡ None → slice_get ss i ≡ Some (stmt.Call call) → AllByRecursion IsClosed call.exprs
+pub call_closed : (header ss : List Stmt) (i : ℕ) (call : BodyOp) → IsAdmissible header (take i ss) (stmt.Call call) → passed_by_literals (flat_map statement_literals ss) ≡ None → slice_get ss i ≡ Some (stmt.Call call) → AllByRecursion HasNoNames call.exprs
 call_closed header ss i call admissible short at =
     closed_exprs call.exprs (short_exprs call.exprs (short_statement ss i (stmt.Call call) short at)) (λ at h. admissible kind.Name at h)
 

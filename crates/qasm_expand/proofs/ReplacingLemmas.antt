@@ -3,9 +3,9 @@ use Rattle.std.proofs.Common.{◌≡◌, ℕ, List, [], ◌∷◌, ◌++◌, fal
 use Rattle.std.specs.List.{AllByRecursion, slice_get}
 use Rattle.zac_gates.specs.Ops.{NativeCircuit}
 use Rattle.qasm_parse.specs.declared.stmt.Node.{Node}
-use Rattle.qasm_scope.specs.declared.gate.GateDef.{GateDef}
-use Rattle.qasm_scope.specs.declared.gate.Target.TheVariants as target
-use Rattle.qasm_scope.specs.Accepted.{Program}
+use Rattle.qasm_names.specs.declared.gate.GateDef.{GateDef}
+use Rattle.qasm_names.specs.declared.gate.Target.TheVariants as target
+use Rattle.qasm_names.specs.Accepted.{Program}
 use Rattle.qasm_expand.specs.Expansion.{IsExpansion}
 use Rattle.qasm_expand.specs.Items.{Item}
 use Rattle.qasm_expand.specs.Items.Item.{Applied, Barrier, Measured}

@@ -6,10 +6,10 @@ use Rattle.std.specs.Str.{bytes_eq}
 use Rattle.std.proofs.lemmas.List.{at_drop_more}
 use Rattle.qasm_parse.specs.declared.stmt.Arg.{Arg}
 use Rattle.qasm_parse.specs.declared.stmt.Stmt.{Stmt}
-use Rattle.qasm_scope.specs.declared.meaning.Meaning.{Meaning}
-use Rattle.qasm_scope.specs.declared.meaning.Meaning.TheVariants as means
-use Rattle.qasm_scope.specs.Names.{qubit_size, qubits_in, value_or}
-use Rattle.qasm_scope.specs.Applications.{applications, times_by}
+use Rattle.qasm_names.specs.declared.meaning.Meaning.{Meaning}
+use Rattle.qasm_names.specs.declared.meaning.Meaning.TheVariants as means
+use Rattle.qasm_names.specs.Names.{qubit_size, qubits_in, value_or}
+use Rattle.qasm_names.specs.Applications.{applications, times_by}
 use Rattle.qasm_expand.specs.declared.kind.RegisterKind.{RegisterKind}
 use Rattle.qasm_expand.specs.declared.kind.RegisterKind.TheVariants as register
 use Rattle.qasm_expand.specs.RegisterKinds.{registers_of}

@@ -2,11 +2,11 @@
 use Rattle.std.proofs.Common.{◌≡◌, ◌≢◌, ℕ, zero, suc, ◌<◌, ◌⊎◌, List, [], ◌∷◌, ◌++◌, map, length, get_or, Some, refl, ap, sym, ◌∙◌, subst, inl, inr, arith}
 use Rattle.std.specs.List.{AllByRecursion, AllPairs, slice_get}
 use Rattle.qasm_parse.specs.declared.stmt.Node.{Node}
-use Rattle.qasm_scope.specs.declared.gate.Bound.{Bound}
-use Rattle.qasm_scope.specs.declared.gate.GateDef.{GateDef}
-use Rattle.qasm_scope.specs.declared.gate.Target.{Target}
-use Rattle.qasm_scope.specs.declared.gate.Target.TheVariants as target
-use Rattle.qasm_scope.specs.Bound.{Takes, AreApart, IsWellBoundCall, IsWellBound}
+use Rattle.qasm_names.specs.declared.gate.Bound.{Bound}
+use Rattle.qasm_names.specs.declared.gate.GateDef.{GateDef}
+use Rattle.qasm_names.specs.declared.gate.Target.{Target}
+use Rattle.qasm_names.specs.declared.gate.Target.TheVariants as target
+use Rattle.qasm_names.specs.Bound.{TargetTakes, AreDistinctFor, IsWellBoundCall, IsWellBound}
 use Rattle.std.proofs.lemmas.List.Elements.{recursion_from_All}
 use Rattle.qasm_expand.specs.Items.{Item}
 use Rattle.qasm_expand.specs.Items.Item.{Applied, Barrier, Measured}
@@ -153,7 +153,7 @@ length_chosen : (qubits places : List ℕ) → length (map (λ i. get_or qubits 
 length_chosen qubits [] = refl
 length_chosen qubits (i ∷ places) = ap suc (length_chosen qubits places)
 
-pub takes_qubits : (gates : List GateDef) (place params args : ℕ) (t : Target) → Takes gates place params args t → TakesQubits gates t args
+pub takes_qubits : (gates : List GateDef) (place params args : ℕ) (t : Target) → TargetTakes gates place params args t → TakesQubits gates t args
 takes_qubits gates place params args (target.Gate p) h = λ g at. let same : h.1 ≡ g = cc (h.2, at) in h.4 ∙ ap (λ (x : GateDef). x.args) same
 takes_qubits gates place params args target.U h = tt
 takes_qubits gates place params args target.Cx h = tt
@@ -167,7 +167,7 @@ inner_applied gates n m t angles qubits places low apart below distinct takes = 
   spares = λ later. tt;
 }
 
-inner_is : (gates : List GateDef) (n m : ℕ) (t : Target) (angles : List (List Node)) (qubits places : List ℕ) → AllByRecursion (λ q. q < n) qubits → AreDistinct qubits → AllByRecursion (λ i. i < length qubits) places → AreApart places t → TakesQubits gates t (length places) → IsInner gates n m qubits (inner t angles (map (λ i. get_or qubits i 0) places))
+inner_is : (gates : List GateDef) (n m : ℕ) (t : Target) (angles : List (List Node)) (qubits places : List ℕ) → AllByRecursion (λ q. q < n) qubits → AreDistinct qubits → AllByRecursion (λ i. i < length qubits) places → AreDistinctFor places t → TakesQubits gates t (length places) → IsInner gates n m qubits (inner t angles (map (λ i. get_or qubits i 0) places))
 inner_is gates n m target.Barrier angles qubits places low apart below distinct takes = record { sound = tt; some = λ q a. absurd a; spares = λ later. tt }
 inner_is gates n m (target.Gate place) angles qubits places low apart below distinct takes = inner_applied gates n m (target.Gate place) angles qubits places low apart below (apart_from_pairs places distinct) takes
 inner_is gates n m target.U angles qubits places low apart below distinct takes = inner_applied gates n m target.U angles qubits places low apart below (apart_from_pairs places distinct) takes

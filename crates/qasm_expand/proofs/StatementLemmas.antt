@@ -6,13 +6,13 @@ use Rattle.qasm_parse.specs.declared.stmt.Arg.{Arg}
 use Rattle.qasm_parse.specs.declared.stmt.BodyOp.{BodyOp}
 use Rattle.qasm_parse.specs.declared.stmt.Stmt.{Stmt}
 use Rattle.qasm_parse.specs.declared.stmt.Stmt.TheVariants as stmt
-use Rattle.qasm_scope.specs.declared.fault.ScopeKind.TheVariants as kind
-use Rattle.qasm_scope.specs.declared.gate.Target.{Target}
-use Rattle.qasm_scope.specs.Names.{Environment}
-use Rattle.qasm_scope.specs.Environment.{enter, environment}
-use Rattle.qasm_scope.specs.Applications.{applications, applied, IsRead}
-use Rattle.qasm_scope.specs.Refusals.{SomeTwo, DifferInSize, RepeatsQubit, TouchesRead}
-use Rattle.qasm_scope.specs.Accepted.{IsAdmissible}
+use Rattle.qasm_names.specs.declared.fault.ScopeKind.TheVariants as kind
+use Rattle.qasm_names.specs.declared.gate.Target.{Target}
+use Rattle.qasm_names.specs.Names.{Environment}
+use Rattle.qasm_names.specs.Environment.{enter, environment}
+use Rattle.qasm_names.specs.Applications.{applications, applied, WasRead}
+use Rattle.qasm_names.specs.Refusals.{SomeTwo, DifferInSize, RepeatsQubit, TouchesRead}
+use Rattle.qasm_names.specs.Accepted.{IsAdmissible}
 use Rattle.qasm_expand.specs.declared.kind.RegisterKind.TheVariants as register
 use Rattle.qasm_expand.specs.Items.{Item, qubit_number, qubit_count, bit_count, application, items_of}
 use Rattle.qasm_expand.specs.RegisterKinds.{IsPlaceIn}
@@ -20,8 +20,8 @@ use Rattle.qasm_expand.specs.Fit.{Suits}
 use Rattle.qasm_expand.proofs.EnvironmentLemmas.{IsBare}
 use Rattle.qasm_expand.proofs.AdmissibleLemmas.{IsAdmissibleArg, fine_args, any_head, any_tail, places_of, numbers_apart}
 use Rattle.qasm_expand.proofs.GateLemmas.{target_in, call_suits}
-use Rattle.qasm_expand.proofs.NumberLemmas.{number-below}
-use Rattle.qasm_expand.proofs.ReadLemmas.{Untouched, IsFresh, ReadsSoFar}
+use Rattle.qasm_expand.proofs.NumberingLemmas.{number-below}
+use Rattle.qasm_expand.proofs.ApplicationsLemmas.{Untouched, IsFresh, ReadsSoFar}
 use Rattle.qasm_expand.proofs.SoundItems.{Among, TakesQubits, IsSound, Spares, AllSpare, takes_qubits, all_of}
 
 -- the numbers from one on
@@ -48,15 +48,15 @@ numbers_below : (all : List Stmt) (k : ℕ) (args : List Arg) → AllByRecursion
 numbers_below all k [] h = tt
 numbers_below all k (arg ∷ args) h = (number-below register.Qubit all (applied arg k) h.0, numbers_below all k args h.1)
 
-pub numbers_fresh : (e : Environment) (before all : List Stmt) (k : ℕ) (args : List Arg) → AllByRecursion (λ (arg : Arg). IsPlaceIn register.Qubit all (applied arg k)) args → (Any (λ arg. IsRead e before (applied arg k)) args → ⊥) → (q : ℕ) → Among q (map (numbered all k) args) → Untouched e before all q
+pub numbers_fresh : (e : Environment) (before all : List Stmt) (k : ℕ) (args : List Arg) → AllByRecursion (λ (arg : Arg). IsPlaceIn register.Qubit all (applied arg k)) args → (Any (λ arg. WasRead e before (applied arg k)) args → ⊥) → (q : ℕ) → Among q (map (numbered all k) args) → Untouched e before all q
 numbers_fresh e before all k [] h not q a = absurd a
 numbers_fresh e before all k (arg ∷ args) h not q (inl is) = record {
   place = applied arg k;
   at = h.0;
   number = is;
-  unread = λ r. not (any_head (λ arg. IsRead e before (applied arg k)) arg args r);
+  unread = λ r. not (any_head (λ arg. WasRead e before (applied arg k)) arg args r);
 }
-numbers_fresh e before all k (arg ∷ args) h not q (inr a) = numbers_fresh e before all k args h.1 (λ r. not (any_tail (λ arg. IsRead e before (applied arg k)) arg args r)) q a
+numbers_fresh e before all k (arg ∷ args) h not q (inr a) = numbers_fresh e before all k args h.1 (λ r. not (any_tail (λ arg. WasRead e before (applied arg k)) arg args r)) q a
 
 -- one application of a call
 pub record IsGoodCall (header pre : List Stmt) (all : List Stmt) (item : Item) : Type 0 where

@@ -10,9 +10,9 @@ use Rattle.qasm_parse.specs.declared.stmt.Node.{Node}
 use Rattle.qasm_parse.specs.declared.stmt.Node.TheVariants as node
 use Rattle.qasm_parse.specs.Numbers.{HasNumber, IsExpression}
 use Rattle.qasm_parse.specs.Postfix.{with_one, with_two, operands, IsPostfix}
-use Rattle.qasm_scope.specs.Names.{value_or}
+use Rattle.qasm_names.specs.Names.{value_or}
 use Rattle.qasm_expand.specs.Angles.{replaced, substitute}
-use Rattle.qasm_expand.specs.AngleNodes.{IsOver, IsExprOver, IsClosed, StandsFor}
+use Rattle.qasm_expand.specs.AngleNodes.{IsOver, IsExprOver, HasNoNames, StandsFor}
 
 abbrev Pairs : Type 0
 Pairs = List (List ℕ × List Node)
@@ -153,14 +153,14 @@ substitute_all P es Q each [] all = tt
 substitute_all P es Q each (x ∷ nodes) all =
     all_append P (replaced es x) (substitute es nodes) (each x all.0) (substitute_all P es Q each nodes all.1)
 
-replaced_closed : (params : List (List ℕ)) (angles : List (List Node)) → length params ≤ length angles → AllByRecursion IsClosed angles → (x : Node) → IsOver params x → IsClosed (replaced (zip params angles) x)
+replaced_closed : (params : List (List ℕ)) (angles : List (List Node)) → length params ≤ length angles → AllByRecursion HasNoNames angles → (x : Node) → IsOver params x → HasNoNames (replaced (zip params angles) x)
 replaced_closed params angles enough all (node.Name name at) h =
-    lookup_there IsClosed params angles name enough all h.0 h.1 h.2 (node.Name name at ∷ [])
+    lookup_there HasNoNames params angles name enough all h.0 h.1 h.2 (node.Name name at ∷ [])
 replaced_closed params angles enough all (node.Number text) h = (h, tt)
 replaced_closed params angles enough all other h = (tt, tt)
 
 -- an expression over parameters has no names once an angle is put in for each
-pub substitute_closed : (params : List (List ℕ)) (angles : List (List Node)) (nodes : List Node) → length params ≤ length angles → AllByRecursion IsClosed angles → IsExprOver params nodes → IsClosed (substitute (zip params angles) nodes)
+pub substitute_closed : (params : List (List ℕ)) (angles : List (List Node)) (nodes : List Node) → length params ≤ length angles → AllByRecursion HasNoNames angles → IsExprOver params nodes → HasNoNames (substitute (zip params angles) nodes)
 substitute_closed params angles nodes enough all h =
     substitute_all (IsOver []) (zip params angles) (IsOver params) (replaced_closed params angles enough all) nodes h
 

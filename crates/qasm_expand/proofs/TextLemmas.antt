@@ -13,9 +13,9 @@ use Rattle.qasm_parse.specs.Numbers.{HasNumber}
 use Rattle.qasm_parse.proofs.NumberBytes.{number_fits}
 use Rattle.qasm_parse.specs.Postfix.{IsPostfix}
 use Rattle.qasm_expand.specs.Trees.{Tree, postfix, function_text, signed, text}
-use Rattle.qasm_expand.specs.Angles.{tree_of, text_of}
-use Rattle.qasm_expand.specs.AngleNodes.{IsOver, IsClosed}
-use Rattle.qasm_expand.proofs.TreeLemmas.{postfix_tree_of}
+use Rattle.qasm_expand.specs.Angles.{tree_of, angle_text}
+use Rattle.qasm_expand.specs.AngleNodes.{IsOver, HasNoNames}
+use Rattle.qasm_expand.proofs.TreesLemmas.{postfix_tree_of}
 
 -- a text is made of an angle's bytes, one at least, and at most 46 for each of so many nodes
 abbrev Fits : ℕ → List ℕ → Type 0
@@ -74,7 +74,7 @@ IsAngleNode x = HasNumber x × IsOver [] x
 abbrev AreAngleNodes : List Node → Type 0
 AreAngleNodes nodes = AllByRecursion IsAngleNode nodes
 
-both : (nodes : List Node) → AllByRecursion HasNumber nodes → IsClosed nodes → AreAngleNodes nodes
+both : (nodes : List Node) → AllByRecursion HasNumber nodes → HasNoNames nodes → AreAngleNodes nodes
 both [] numbers closed = tt
 both (x ∷ nodes) numbers closed = ((numbers.0, closed.0), both nodes numbers.1 closed.1)
 
@@ -106,10 +106,10 @@ tree_fits (Tree.Power a b) h =
     two_fits (codes "^") (text a) (text b) (postfix a) (postfix b) node.Power refl refl (tree_fits a (left_fit a b node.Power h)) (tree_fits b (right_fit a b node.Power h))
 
 -- of at most 256 nodes that are an expression without names
-pub text_is_angle : (nodes : List Node) → length nodes ≤ 256 → IsPostfix nodes → AllByRecursion HasNumber nodes → IsClosed nodes → IsTrue (is_angle (text_of nodes))
+pub text_is_angle : (nodes : List Node) → length nodes ≤ 256 → IsPostfix nodes → AllByRecursion HasNumber nodes → HasNoNames nodes → IsTrue (is_angle (angle_text nodes))
 text_is_angle nodes few postfix_order numbers closed =
     let same : postfix (tree_of nodes) ≡ nodes = postfix_tree_of nodes postfix_order in
-    let fits : Fits (length nodes) (text_of nodes) = subst (λ ns. Fits (length ns) (text_of nodes)) same (tree_fits (tree_of nodes) (subst AreAngleNodes (flip same) (both nodes numbers closed))) in
-    let some : 1 ≤ length (text_of nodes) = omega (arith, fits.0) in
-    let most : length (text_of nodes) ≤ 16384 = omega (arith, fits.1, few) in
+    let fits : Fits (length nodes) (angle_text nodes) = subst (λ ns. Fits (length ns) (angle_text nodes)) same (tree_fits (tree_of nodes) (subst AreAngleNodes (flip same) (both nodes numbers closed))) in
+    let some : 1 ≤ length (angle_text nodes) = omega (arith, fits.0) in
+    let most : length (angle_text nodes) ≤ 16384 = omega (arith, fits.1, few) in
     and_from _ _ (and_from _ _ (le-leb _ _ some) (le-leb _ _ most)) fits.2

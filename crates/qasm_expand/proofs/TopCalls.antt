@@ -7,9 +7,9 @@ use Rattle.qasm_parse.specs.declared.stmt.Arg.{Arg}
 use Rattle.qasm_parse.specs.declared.stmt.BodyOp.{BodyOp}
 use Rattle.qasm_parse.specs.declared.stmt.Node.{Node}
 use Rattle.qasm_parse.specs.declared.stmt.Stmt.{Stmt}
-use Rattle.qasm_scope.specs.Applications.{applied}
-use Rattle.qasm_scope.specs.declared.gate.GateDef.{GateDef}
-use Rattle.qasm_scope.specs.declared.gate.Target.{Target}
+use Rattle.qasm_names.specs.Applications.{applied}
+use Rattle.qasm_names.specs.declared.gate.GateDef.{GateDef}
+use Rattle.qasm_names.specs.declared.gate.Target.{Target}
 use Rattle.qasm_expand.specs.declared.walk.Walk.{Walk}
 use Rattle.qasm_expand.specs.declared.fault.ExpandFault.{ExpandFault}
 use Rattle.qasm_expand.specs.declared.fault.ExpandFault.TheVariants as fault
@@ -19,8 +19,8 @@ use Rattle.qasm_expand.specs.Items.{Item, application, measurement, qubit_number
 use Rattle.qasm_expand.specs.Items.Item.{Applied, Measured}
 use Rattle.qasm_expand.specs.Limits.{passed_by_calls}
 use Rattle.qasm_expand.specs.Walks.{Walks, Passes, VisitsCall}
-use Rattle.qasm_expand.proofs.FaultLemmas.{fault_memory}
-use Rattle.qasm_expand.proofs.WalkLemmas.{walks_append, walks_plain, passes_first, passes_second, passes_plain}
+use Rattle.qasm_expand.proofs.FaultsLemmas.{fault_memory}
+use Rattle.qasm_expand.proofs.WalksLemmas.{walks_append, walks_plain, passes_first, passes_second, passes_plain}
 
 pub ranges_same : (a b n m : ℕ) → a ≡ b → n ≡ m → range_with_len a n ≡ range_with_len b m
 ranges_same a b n m e f = ap (λ k. range_with_len k n) e ∙ ap (λ k. range_with_len b k) f

@@ -4,9 +4,9 @@ use Rattle.std.specs.Option.{option_or}
 use Rattle.std.specs.Result.{IfErr}
 use Rattle.qasm_parse.specs.declared.stmt.Node.{Node}
 use Rattle.qasm_parse.specs.declared.stmt.Node.TheVariants as node
-use Rattle.qasm_scope.specs.declared.gate.GateDef.{GateDef}
-use Rattle.qasm_scope.specs.declared.gate.Target.{Target}
-use Rattle.qasm_scope.specs.declared.gate.Target.TheVariants as target
+use Rattle.qasm_names.specs.declared.gate.GateDef.{GateDef}
+use Rattle.qasm_names.specs.declared.gate.Target.{Target}
+use Rattle.qasm_names.specs.declared.gate.Target.TheVariants as target
 use Rattle.qasm_expand.specs.declared.walk.Walk.{Walk}
 use Rattle.qasm_expand.specs.declared.frame.Frame.{Frame}
 use Rattle.qasm_expand.specs.declared.fault.ExpandFault.{ExpandFault}
@@ -17,13 +17,13 @@ use Rattle.qasm_expand.specs.Items.Item.{Applied}
 use Rattle.qasm_expand.specs.Limits.{passed_by_angles}
 use Rattle.qasm_expand.specs.Native.{ops_on}
 use Rattle.qasm_expand.specs.Replacing.{inner}
-use Rattle.qasm_expand.specs.Walks.{Counts, OpensFrame, Passes, VisitsFirst, Writes, angles_in, passed_by_call, pending}
+use Rattle.qasm_expand.specs.Walks.{Counts, OpensFrame, Passes, VisitsFirst, AddsOps, angles_in, passed_by_call, pending}
 use Rattle.qasm_expand.specs.Fit.{IsFit}
 use Rattle.qasm_expand.proofs.CallLemmas.{applied_visit}
-use Rattle.qasm_expand.proofs.FaultLemmas.{fault_same}
-use Rattle.qasm_expand.proofs.LimitLemmas.{passed_one}
+use Rattle.qasm_expand.proofs.FaultsLemmas.{fault_same}
+use Rattle.qasm_expand.proofs.LimitsLemmas.{passed_one}
 use Rattle.qasm_expand.proofs.FrameLemmas.{pending_opens}
-use Rattle.qasm_expand.proofs.WalkLemmas.{Walking, first_passes, walking_visit}
+use Rattle.qasm_expand.proofs.WalksLemmas.{Walking, first_passes, walking_visit}
 
 -- where there are no parameters nothing is put in
 replaced_none : (n : Node) → replaced [] n ≡ n ∷ []
@@ -43,7 +43,7 @@ within_inner gates d target.Barrier angles qubits = refl
 within_inner gates d other angles qubits = refl
 
 module _ (gates : List GateDef) (old mid new : Walk) (t : Target) (angles made : List (List Node)) (qubits : List ℕ) (frames : List Frame) where
-  pub top_visit : made ≡ angles → IsFit gates (Applied t angles qubits) → Counts old mid 1 made → Writes mid new (ops_on t made qubits) → OpensFrame [] t made qubits frames → Walking gates old new (record { depth = 1; item = Applied t angles qubits } ∷ []) (pending gates frames)
+  pub top_visit : made ≡ angles → IsFit gates (Applied t angles qubits) → Counts old mid 1 made → AddsOps mid new (ops_on t made qubits) → OpensFrame [] t made qubits frames → Walking gates old new (record { depth = 1; item = Applied t angles qubits } ∷ []) (pending gates frames)
   top_visit same fit counts writes opens =
       let v : Visit = record { depth = 1; item = Applied t made qubits } in
       let first : VisitsFirst gates old new (v ∷ []) (pending gates frames) = record {

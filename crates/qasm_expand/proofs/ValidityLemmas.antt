@@ -3,16 +3,16 @@ use Rattle.std.proofs.Common.{◌≡◌, ℕ, List, [], ◌∷◌, ◌++◌, ref
 use Rattle.std.specs.List.{AllByRecursion}
 use Rattle.zac_gates.specs.Ops.{IsValid}
 use Rattle.qasm_parse.specs.declared.stmt.Stmt.{Stmt}
-use Rattle.qasm_scope.specs.Names.{Environment}
-use Rattle.qasm_scope.specs.Environment.{enter, environment, opening}
-use Rattle.qasm_scope.specs.Accepted.{AreAdmissible}
+use Rattle.qasm_names.specs.Names.{Environment}
+use Rattle.qasm_names.specs.Environment.{enter, environment, opening_names}
+use Rattle.qasm_names.specs.Accepted.{AreAdmissible}
 use Rattle.qasm_expand.specs.Items.{Item, qubit_count, bit_count, items_of, items_behind, program_items}
 use Rattle.qasm_expand.specs.Native.{native_circuit}
 use Rattle.qasm_expand.specs.Replacing.{Expands}
-use Rattle.qasm_scope.specs.Bound.{IsWellBound}
+use Rattle.qasm_names.specs.Bound.{IsWellBound}
 use Rattle.qasm_expand.proofs.EnvironmentLemmas.{IsBare, after-append}
 use Rattle.qasm_expand.proofs.MeasureLemmas.{statement_good}
-use Rattle.qasm_expand.proofs.ReadLemmas.{IsFresh, fresh_cross, fresh_before}
+use Rattle.qasm_expand.proofs.ApplicationsLemmas.{IsFresh, fresh_cross, fresh_before}
 use Rattle.qasm_expand.proofs.SoundItems.{IsSound, AllSpare, AreSound, all_join, all_mapped, spare_join, expanded_sound}
 use Rattle.qasm_expand.proofs.SoundOps.{sound_valid}
 use Rattle.qasm_expand.proofs.StatementLemmas.{AreGood}
@@ -26,7 +26,7 @@ pub record AreGoodBehind (header pre all : List Stmt) (items : List Item) : Type
 one_more : (header pre : List Stmt) (s : Stmt) (all : List Stmt) (xs ys : List Item) → IsBare header → AreGood header pre s all xs → AreGoodBehind header (pre ++ s ∷ []) all ys → AreGoodBehind header pre all (xs ++ ys)
 one_more header pre s all xs ys bare good rest =
     let e = environment header pre in
-    let later : AllByRecursion (IsFresh (enter e s) (pre ++ s ∷ []) all) ys = subst (λ (x : Environment). AllByRecursion (IsFresh x (pre ++ s ∷ []) all) ys) (after-append (opening header) pre (s ∷ [])) rest.fresh in
+    let later : AllByRecursion (IsFresh (enter e s) (pre ++ s ∷ []) all) ys = subst (λ (x : Environment). AllByRecursion (IsFresh x (pre ++ s ∷ []) all) ys) (after-append (opening_names header) pre (s ∷ [])) rest.fresh in
     record {
       each = all_join (IsSound (environment header all).gates (qubit_count all) (bit_count all)) xs ys good.each rest.each;
       spare = spare_join xs ys good.spare rest.spare (fresh_cross (enter e s) (pre ++ s ∷ []) all xs ys good.reads later);
@@ -39,7 +39,7 @@ behind_good header pre (s ∷ suf) all is bare admissible =
     let e = environment header pre in
     let here : AreGood header pre s all (items_of e all s) = subst (λ ss. AreGood header pre s ss (items_of e ss s)) (sym is) (statement_good header pre (s ∷ suf) s bare admissible.0) in
     let there = behind_good header (pre ++ s ∷ []) suf all (is ∙ sym (append_assoc pre (s ∷ []) suf)) bare admissible.1 in
-    let rest : AreGoodBehind header (pre ++ s ∷ []) all (items_behind (enter e s) all suf) = subst (λ (x : Environment). AreGoodBehind header (pre ++ s ∷ []) all (items_behind x all suf)) (after-append (opening header) pre (s ∷ [])) there in
+    let rest : AreGoodBehind header (pre ++ s ∷ []) all (items_behind (enter e s) all suf) = subst (λ (x : Environment). AreGoodBehind header (pre ++ s ∷ []) all (items_behind x all suf)) (after-append (opening_names header) pre (s ∷ [])) there in
     one_more header pre s all (items_of e all s) (items_behind (enter e s) all suf) bare here rest
 
 pub program_sound : (header ss : List Stmt) → IsBare header → AreAdmissible header [] ss → AreSound (environment header ss).gates (qubit_count ss) (bit_count ss) (program_items header ss)

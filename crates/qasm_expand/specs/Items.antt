@@ -7,13 +7,14 @@ use Rattle.qasm_parse.specs.declared.stmt.BodyOp.{BodyOp}
 use Rattle.qasm_parse.specs.declared.stmt.Node.{Node}
 use Rattle.qasm_parse.specs.declared.stmt.Stmt.{Stmt}
 use Rattle.qasm_parse.specs.declared.stmt.Stmt.TheVariants as stmt
-use Rattle.qasm_scope.specs.declared.gate.Target.{Target}
-use Rattle.qasm_scope.specs.declared.gate.Target.TheVariants as target
-use Rattle.qasm_scope.specs.Names.{Environment, callee, target_of, value_or}
-use Rattle.qasm_scope.specs.Environment.{enter, opening}
-use Rattle.qasm_scope.specs.Applications.{Place, applications, applied}
+use Rattle.qasm_names.specs.declared.gate.Target.{Target}
+use Rattle.qasm_names.specs.declared.gate.Target.TheVariants as target
+use Rattle.qasm_names.specs.Names.{Environment, callee, target_of, value_or}
+use Rattle.qasm_names.specs.Environment.{enter, opening_names}
+use Rattle.qasm_names.specs.Applications.{Place, applications, applied}
 
--- a call on qubits with its angles; a barrier, which is for all qubits; or a measurement of a qubit into a bit
+-- One call: `Applied`, of a target with its angles on numbered qubits; `Barrier`, a barrier; `Measured`, of a qubit
+-- into a bit.
 pub data Item : Type 0 where
   Applied : (to : Target) (angles : List (List Node)) (qubits : List ℕ) → Item
   Barrier : Item
@@ -25,6 +26,7 @@ qubit_number [] p = p.1
 qubit_number (stmt.Qreg name size at ∷ ss) p = if bytes_eq name p.0 then p.1 else size + qubit_number ss p
 qubit_number (other ∷ ss) p = qubit_number ss p
 
+-- The number of a place: its index, and the sizes of all registers of its kind that are declared before its own.
 abbrev pub bit_number : List Stmt → Place → ℕ
 bit_number [] p = p.1
 bit_number (stmt.Creg name size at ∷ ss) p = if bytes_eq name p.0 then p.1 else size + bit_number ss p
@@ -36,19 +38,21 @@ qubit_count [] = 0
 qubit_count (stmt.Qreg name size at ∷ ss) = size + qubit_count ss
 qubit_count (other ∷ ss) = qubit_count ss
 
+-- The sizes of all registers of qubits together, and of all registers of bits.
 abbrev pub bit_count : List Stmt → ℕ
 bit_count [] = 0
 bit_count (stmt.Creg name size at ∷ ss) = size + bit_count ss
 bit_count (other ∷ ss) = bit_count ss
 
--- application k of a call, in a program of these statements
+-- Application k of a call: its target, its angles, and the numbers of its qubits there.
 abbrev pub application : List Stmt → Target → BodyOp → ℕ → Item
 application all to call k = Applied to call.exprs (map (λ arg. qubit_number all (applied arg k)) call.args)
 
+-- Application k of a measurement.
 abbrev pub measurement : List Stmt → Arg → Arg → ℕ → Item
 measurement all from into k = Measured (qubit_number all (applied from k)) (bit_number all (applied into k))
 
--- the calls of one statement
+-- The calls of one statement: those of each of its applications; one `Barrier` for a barrier; none for a declaration.
 abbrev pub items_of : Environment → List Stmt → Stmt → List Item
 items_of e all (stmt.Call call) =
     map (application all (value_or (target_of (callee e call.name)) target.Barrier) call) (range_with_len 0 (applications e call.args))
@@ -56,10 +60,11 @@ items_of e all (stmt.Measure from into at) = map (measurement all from into) (ra
 items_of e all (stmt.Barrier args at) = Barrier ∷ []
 items_of e all other = []
 
--- those of all statements, in their order
+-- Those of each statement in turn, each by what names stand for there.
 abbrev pub items_behind : Environment → List Stmt → List Stmt → List Item
 items_behind e all [] = []
 items_behind e all (s ∷ ss) = items_of e all s ++ items_behind (enter e s) all ss
 
+-- The calls of a program.
 abbrev pub program_items : List Stmt → List Stmt → List Item
-program_items header statements = items_behind (opening header) statements statements
+program_items header statements = items_behind (opening_names header) statements statements

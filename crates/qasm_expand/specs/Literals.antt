@@ -1,9 +1,9 @@
--- The numbers in a gate's body.
+-- Inside: the numbers in a gate's body.
 use Rattle.std.specs.Prelude.{ℕ, List}
 use Rattle.std.specs.List.{flat_map}
 use Rattle.qasm_parse.specs.declared.stmt.BodyOp.{BodyOp}
 use Rattle.qasm_expand.specs.Limits.{literals_in}
 
--- those of its calls, one behind the other
+-- The texts of the numbers in a body.
 abbrev pub body_literals : List BodyOp → List (List ℕ)
 body_literals body = flat_map (λ (op : BodyOp). literals_in op.exprs) body

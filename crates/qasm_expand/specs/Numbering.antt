@@ -1,4 +1,4 @@
--- The numbers of the places of registers.
+-- Inside: the numbers of the places of registers.
 use Rattle.std.specs.Prelude.{ℕ, ◌+◌, List, [], ◌∷◌, Option}
 use Rattle.std.specs.Map.{lookup}
 use Rattle.std.specs.Str.{bytes_eq}
@@ -11,7 +11,7 @@ use Rattle.qasm_expand.specs.declared.extent.Extent.{Extent}
 use Rattle.qasm_expand.specs.declared.kind.RegisterKind.{RegisterKind}
 use Rattle.qasm_expand.specs.RegisterKinds.{registers_of}
 
--- the first number and the size of each register, where the first has this number
+-- The first number and the size of each register, where the first begins at this number.
 abbrev pub extents_from : ℕ → List (List ℕ × ℕ) → List (List ℕ × Extent)
 extents_from start [] = []
 extents_from start (r ∷ rs) = (r.0, record { start = start; size = r.1 }) ∷ extents_from (start + r.1) rs
@@ -20,9 +20,10 @@ extents_from start (r ∷ rs) = (r.0, record { start = start; size = r.1 }) ∷ 
 abbrev pub extent_of : RegisterKind → List Stmt → List ℕ → Option Extent
 extent_of kind statements name = lookup (bytes_eq name) (extents_from 0 (registers_of kind statements))
 
--- the same in a map
+-- A map from names to such numbers.
 abbrev pub Extents : Type 0
 Extents = HashMap (Bor (List ℕ)) Extent (BuildHasherDefault FoldHasher)
 
+-- What the map says of a name.
 abbrev pub extent_in : Extents → List ℕ → Option Extent
 extent_in extents name = get_by (λ k. bytes_eq name k.now) extents

@@ -8,12 +8,13 @@ abbrev pub on_one : {A : Type 0} → (A → A) → List A → List A
 on_one f [] = []
 on_one f (a ∷ stack) = f a ∷ stack
 
+-- An operator takes its one operand, or its two, from the top of a stack, and puts its own value there.
 abbrev pub on_two : {A : Type 0} → (A → A → A) → List A → List A
 on_two f [] = []
 on_two f (a ∷ []) = a ∷ []
 on_two f (b ∷ a ∷ stack) = f a b ∷ stack
 
--- what a leaf, an operator with one operand and one with two stand for
+-- What a leaf, an operator of one operand and an operator of two stand for.
 pub record Reading (A : Type 0) : Type 0 where
   pub leaf : Node → A
   pub one : Node → A → A
@@ -32,11 +33,12 @@ read_node r node.Times stack = on_two (r.two node.Times) stack
 read_node r node.Over stack = on_two (r.two node.Over) stack
 read_node r node.Power stack = on_two (r.two node.Power) stack
 
+-- A node, and several, read so with a stack.
 abbrev pub read_nodes : {A : Type 0} → Reading A → List Node → List A → List A
 read_nodes r [] stack = stack
 read_nodes r (n ∷ ns) stack = read_nodes r ns (read_node r n stack)
 
--- the first of a list, or another where it is empty
+-- The first of a list, or another value where the list is empty.
 abbrev pub first_or : {A : Type 0} → List A → A → A
 first_or [] other = other
 first_or (a ∷ rest) other = a

@@ -6,9 +6,10 @@ use Rattle.qasm_parse.specs.declared.stmt.Function.{Function}
 use Rattle.qasm_parse.specs.declared.stmt.Function.TheVariants as fun
 use Rattle.qasm_parse.specs.declared.stmt.Node.{Node}
 use Rattle.qasm_parse.specs.declared.stmt.Node.TheVariants as node
-use Rattle.qasm_scope.specs.Names.{value_or}
+use Rattle.qasm_names.specs.Names.{value_or}
 
--- a number, as its source has it, pi, a parameter, or an operator with its operands
+-- An expression as a tree: a number, as its source has it, pi, a parameter with its offset, or an operator with its
+-- operands.
 pub data Tree : Type 0 where
   Number : (text : List ℕ) → Tree
   Pi : Tree
@@ -21,7 +22,7 @@ pub data Tree : Type 0 where
   Over : (left right : Tree) → Tree
   Power : (left right : Tree) → Tree
 
--- the nodes in postfix order: the operands', then the operator's
+-- The nodes of a tree in postfix order: those of the operands, then the operator.
 abbrev pub postfix : Tree → List Node
 postfix (Number text) = node.Number text ∷ []
 postfix Pi = node.Pi ∷ []
@@ -34,7 +35,7 @@ postfix (Times a b) = postfix a ++ (postfix b ++ node.Times ∷ [])
 postfix (Over a b) = postfix a ++ (postfix b ++ node.Over ∷ [])
 postfix (Power a b) = postfix a ++ (postfix b ++ node.Power ∷ [])
 
--- a leaf has depth 1, an operator one more than its deepest operand
+-- 1 for a leaf, and one more than the deepest operand for an operator.
 abbrev pub depth : Tree → ℕ
 depth (Number text) = 1
 depth Pi = 1
@@ -47,6 +48,7 @@ depth (Times a b) = suc (max (depth a) (depth b))
 depth (Over a b) = suc (max (depth a) (depth b))
 depth (Power a b) = suc (max (depth a) (depth b))
 
+-- The word of each function.
 abbrev pub function_text : Function → List ℕ
 function_text fun.Sin = codes "sin"
 function_text fun.Cos = codes "cos"
@@ -55,11 +57,12 @@ function_text fun.Exp = codes "exp"
 function_text fun.Ln = codes "ln"
 function_text fun.Sqrt = codes "sqrt"
 
--- two operands with a sign between them, in parentheses
+-- The left operand, the sign and the right operand, in parentheses.
 abbrev pub signed : List ℕ → List ℕ → List ℕ → List ℕ
 signed sign left right = codes "(" ++ (left ++ (sign ++ (right ++ codes ")")))
 
--- how an expression is printed: a number as its source has it, each operator with its operands in parentheses
+-- A number as the source has it, `pi`, or a name; a minus sign and its operand, both in parentheses; a function's word
+-- with its operand in parentheses; two operands with their sign, in parentheses.
 abbrev pub text : Tree → List ℕ
 text (Number source) = source
 text Pi = codes "pi"
@@ -73,14 +76,14 @@ text (Over a b) = signed (codes "/") (text a) (text b)
 text (Power a b) = signed (codes "^") (text a) (text b)
 
 -- the parameters replaced by the angles that a gate is called with; a name that is no parameter stays
-abbrev pub substitute : List (List ℕ × Tree) → Tree → Tree
-substitute angles (Number text) = Number text
-substitute angles Pi = Pi
-substitute angles (Name name at) = value_or (lookup (bytes_eq name) angles) (Name name at)
-substitute angles (Negate a) = Negate (substitute angles a)
-substitute angles (Apply f a) = Apply f (substitute angles a)
-substitute angles (Plus a b) = Plus (substitute angles a) (substitute angles b)
-substitute angles (Minus a b) = Minus (substitute angles a) (substitute angles b)
-substitute angles (Times a b) = Times (substitute angles a) (substitute angles b)
-substitute angles (Over a b) = Over (substitute angles a) (substitute angles b)
-substitute angles (Power a b) = Power (substitute angles a) (substitute angles b)
+abbrev pub tree_with_angles : List (List ℕ × Tree) → Tree → Tree
+tree_with_angles angles (Number text) = Number text
+tree_with_angles angles Pi = Pi
+tree_with_angles angles (Name name at) = value_or (lookup (bytes_eq name) angles) (Name name at)
+tree_with_angles angles (Negate a) = Negate (tree_with_angles angles a)
+tree_with_angles angles (Apply f a) = Apply f (tree_with_angles angles a)
+tree_with_angles angles (Plus a b) = Plus (tree_with_angles angles a) (tree_with_angles angles b)
+tree_with_angles angles (Minus a b) = Minus (tree_with_angles angles a) (tree_with_angles angles b)
+tree_with_angles angles (Times a b) = Times (tree_with_angles angles a) (tree_with_angles angles b)
+tree_with_angles angles (Over a b) = Over (tree_with_angles angles a) (tree_with_angles angles b)
+tree_with_angles angles (Power a b) = Power (tree_with_angles angles a) (tree_with_angles angles b)

@@ -6,7 +6,7 @@ ghost use Rattle.qasm_expand.specs.AngleNodes.{arity_of};
 use qasm_parse::Node;
 
 /// How many operands a node takes.
-#[derive(Clone, Copy, Debug, PartialEq, Eq)]
+#[derive(Clone, Copy)]
 pub(crate) enum Arity {
     Leaf,
     One,

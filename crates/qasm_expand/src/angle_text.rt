@@ -1,9 +1,9 @@
 //! The texts of angles.
 
 ghost use Rattle.std.specs.Prelude.{◌≡◌, ◌++◌, ℕ, ◌≤◌, List, length, reverse, codes, IfOk, OnOk};
-ghost use Rattle.qasm_expand.specs.AngleNodes.{IsClosed};
+ghost use Rattle.qasm_expand.specs.AngleNodes.{HasNoNames};
 ghost use Rattle.qasm_expand.specs.AngleReadings.{leaf_text, one_text, sign_text, texts, two_text};
-ghost use Rattle.qasm_expand.specs.Angles.{text_of};
+ghost use Rattle.qasm_expand.specs.Angles.{angle_text};
 ghost use Rattle.qasm_expand.specs.StackReadings.{on_one, on_two, read_node};
 
 use crate::angle_node::{Arity, arity_of};
@@ -123,7 +123,7 @@ fn read_text(alloc: Global, stack: &mut Vec<Bytes>, node: &Node) -> Result<(), M
 
 /// The bytes of an expression's text.
 pub(crate) fn text_bytes(alloc: Global, nodes: &[Node]) -> Result<Bytes, Memory>
-    ensures { IfOk result (λ text. text ≡ text_of nodes.now) }
+    ensures { IfOk result (λ text. text ≡ angle_text nodes.now) }
 {
     let mut stack = Vec::new(alloc);
     for node in nodes {
@@ -138,8 +138,8 @@ pub(crate) fn text_bytes(alloc: Global, nodes: &[Node]) -> Result<Bytes, Memory>
 /// The text of an angle: a number as its source has it, each operator with its operands in parentheses.
 pub(crate) fn angle_text_of(alloc: Global, angle: &Expr) -> Result<Angle, Memory>
     requires few { length angle.now ≤ 256 }
-    requires closed { IsClosed angle.now }
-    ensures { IfOk result (λ text. text ≡ text_of angle.now) }
+    requires closed { HasNoNames angle.now }
+    ensures { IfOk result (λ text. text ≡ angle_text angle.now) }
 {
     let text = text_bytes(alloc, angle.as_slice())?;
     match Angle::new(text) {

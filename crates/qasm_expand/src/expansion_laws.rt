@@ -3,15 +3,15 @@
 ghost use Rattle.std.specs.Prelude.{◌≡◌, ◌+◌, [], List, length};
 ghost use Rattle.std.specs.List.{AllByRecursion, filter};
 ghost use Rattle.zac_gates.specs.Ops.{NativeCircuit, IsValid};
-ghost use Rattle.qasm_scope.specs.Accepted.{Program, AreAdmissible};
-ghost use Rattle.qasm_scope.specs.Scopes.{AreAdmissibleInHeader};
-ghost use Rattle.qasm_scope.specs.declared.gate.GateDef.{GateDef};
-ghost use Rattle.qasm_expand.specs.Calls.{Visit, Visits, items_in};
+ghost use Rattle.qasm_names.specs.Accepted.{Program, AreAdmissible};
+ghost use Rattle.qasm_names.specs.Scopes.{AreAdmissibleInHeader};
+ghost use Rattle.qasm_names.specs.declared.gate.GateDef.{GateDef};
+ghost use Rattle.qasm_expand.specs.Calls.{Visit, VisitsInOrder, items_in};
 ghost use Rattle.qasm_expand.specs.Expansion.{IsExpansion, IsWithinLimits};
 ghost use Rattle.qasm_expand.specs.Items.{Item};
 ghost use Rattle.qasm_expand.specs.Replacing.{CallsOneOf, Expands, is_plain, replacements};
 
-use qasm_scope::gates_are_well_bound;
+use qasm_names::gates_are_well_bound;
 
 /// A program has one native list at most.
 pub fn one_expansion()
@@ -33,11 +33,11 @@ pub fn each_program_expands()
 /// order, and each other one was replaced. Where each names a gate that is there, replacing comes to an end. So a program
 /// within the limits has its native list from the calls that were counted.
 pub fn calls_are_those_of_the_expansion()
-    ensures left { (gates : List GateDef) (calls visited : List Visit) (items : List Item) → Visits gates calls visited []
+    ensures left { (gates : List GateDef) (calls visited : List Visit) (items : List Item) → VisitsInOrder gates calls visited []
         → Expands gates (items_in calls) items → items ≡ filter is_plain (items_in visited) }
-    ensures counted { (gates : List GateDef) (calls visited : List Visit) (items : List Item) → Visits gates calls visited []
+    ensures counted { (gates : List GateDef) (calls visited : List Visit) (items : List Item) → VisitsInOrder gates calls visited []
         → (e : Expands gates (items_in calls) items) → length visited ≡ replacements e + length items }
-    ensures ends { (gates : List GateDef) (calls visited : List Visit) → Visits gates calls visited []
+    ensures ends { (gates : List GateDef) (calls visited : List Visit) → VisitsInOrder gates calls visited []
         → AllByRecursion (CallsOneOf gates) (items_in visited)
         → Expands gates (items_in calls) (filter is_plain (items_in visited)) }
     ensures program { (p : Program) (c : NativeCircuit) → (within : IsWithinLimits p) → (expansion : IsExpansion p c)

@@ -25,7 +25,7 @@ pub enum LimitKind {
 }
 
 /// Why a program is not expanded.
-#[derive(Clone, Copy, Debug, PartialEq, Eq)]
+#[derive(Clone, Copy)]
 pub enum ExpandFault {
     /// The first limit that is passed, and the count that first passed it. A count past 2^64 - 1 stands as 2^64 - 1.
     Limit { kind: LimitKind, count: u64 },

@@ -3,10 +3,10 @@
 ghost use Rattle.std.specs.Prelude.{◌≡◌, ℕ, List, map};
 ghost use Rattle.qasm_parse.specs.declared.stmt.Node.{Node};
 ghost use Rattle.qasm_parse.specs.Postfix.{IsPostfix};
-ghost use Rattle.qasm_scope.specs.Accepted.{Program};
+ghost use Rattle.qasm_names.specs.Accepted.{Program};
 ghost use Rattle.qasm_expand.specs.Angles as angle;
 ghost use Rattle.qasm_expand.specs.Angles.{tree_of};
-ghost use Rattle.qasm_expand.specs.Trees.{Tree, postfix, substitute};
+ghost use Rattle.qasm_expand.specs.Trees.{Tree, postfix, tree_with_angles};
 ghost use Rattle.qasm_expand.specs.Expansion.{IsWithinLimits, PassesFirst};
 ghost use Rattle.qasm_expand.specs.declared.fault.LimitKind.{LimitKind};
 
@@ -18,7 +18,7 @@ pub fn angles_are_trees()
     ensures each { (nodes : List Node) → IsPostfix nodes → postfix (tree_of nodes) ≡ nodes }
     ensures is_expression { (t : Tree) → IsPostfix (postfix t) }
     ensures substituted { (angles : List (List ℕ × Tree)) (t : Tree)
-        → angle.substitute (map (λ (a : List ℕ × Tree). (a.0, postfix a.1)) angles) (postfix t) ≡ postfix (substitute angles t) }
+        → angle.substitute (map (λ (a : List ℕ × Tree). (a.0, postfix a.1)) angles) (postfix t) ≡ postfix (tree_with_angles angles t) }
 {}
 
 /// A program has one answer at most: it is within the limits, or it passes one limit first, with one count.

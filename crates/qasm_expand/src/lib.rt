@@ -5,8 +5,6 @@ mod angle_depth;
 mod angle_limit;
 mod angle_node;
 mod angle_stack;
-#[cfg(test)]
-mod angle_tests;
 mod angle_text;
 pub mod expansion_laws;
 mod extent;
@@ -17,8 +15,6 @@ pub mod laws;
 mod limit;
 mod literals;
 mod native;
-#[cfg(test)]
-mod native_tests;
 mod numbering;
 mod registers;
 mod statement;
@@ -27,8 +23,6 @@ mod substitution;
 mod sums;
 mod top;
 mod walk;
-#[cfg(test)]
-mod walk_tests;
 mod write;
 
 pub use expansion_laws::{calls_are_those_of_the_expansion, each_program_expands, one_expansion};

@@ -1,7 +1,7 @@
 //! A program as its native list.
 
 ghost use Rattle.std.specs.Prelude.{◌≡◌, ◌≤◌, ◌⊎◌, ℕ, length, IfOk, IfErr, IsErrOf, IsErrAnd};
-ghost use Rattle.qasm_expand.specs.Answers.{Tells};
+ghost use Rattle.qasm_expand.specs.Answers.{TellsLimit};
 ghost use Rattle.qasm_expand.specs.Expansion.{IsWithinLimits, PassesFirst, IsExpansion};
 ghost use Rattle.qasm_expand.specs.Native.{pairs_in};
 ghost use Rattle.qasm_expand.specs.declared.fault.LimitKind.{LimitKind};
@@ -11,25 +11,25 @@ use crate::limit::refuse;
 use crate::registers::Registers;
 use crate::statement::{has_short_numbers, walk_all};
 use crate::sums::passed_before_calls;
-use qasm_scope::Scope;
+use qasm_names::SourceProgram;
 use std::alloc::Global;
 use zac_gates::{Circuit, CircuitFault};
 
 /// The native list of a program. The header's numbers are short: where a type leaves that open, the answer is want of
 /// memory.
-fn native(alloc: Global, scope: &Scope) -> Result<Circuit, ExpandFault>
-    ensures within { IfOk result (λ _. IsWithinLimits scope.now) }
-    ensures expansion { IfOk result (IsExpansion scope.now) }
+fn native(alloc: Global, program: &SourceProgram) -> Result<Circuit, ExpandFault>
+    ensures within { IfOk result (λ _. IsWithinLimits program.now) }
+    ensures expansion { IfOk result (IsExpansion program.now) }
     ensures few { IfOk result (λ c. (pairs_in c.ops ≤ 262144) × (length c.ops ≤ 786432)) }
-    ensures err { IfErr result (Tells scope.now) }
+    ensures err { IfErr result (TellsLimit program.now) }
 {
-    let statements = scope.statements();
+    let statements = program.statements();
     refuse(passed_before_calls(statements))?;
-    if !has_short_numbers(scope.gates()) {
+    if !has_short_numbers(program.gates()) {
         return Err(ExpandFault::Memory);
     }
     let registers = Registers::new(alloc, statements)?;
-    let walk = walk_all(alloc, scope, &registers)?;
+    let walk = walk_all(alloc, program, &registers)?;
     let circuit = Circuit::new(
         alloc,
         registers.qubit_count(),
@@ -49,16 +49,16 @@ fn native(alloc: Global, scope: &Scope) -> Result<Circuit, ExpandFault>
 ///
 /// `Limit` comes exactly where a limit is passed, and tells the first with the count that first passed it: before the calls
 /// the length of a number and the sums of the registers' sizes, then call by call. `Memory` says that there was none.
-pub fn expand(alloc: Global, scope: &Scope) -> Result<Circuit, ExpandFault>
-    ensures ok { IfOk result (λ c. IsWithinLimits scope.now × IsExpansion scope.now c) }
+pub fn expand(alloc: Global, program: &SourceProgram) -> Result<Circuit, ExpandFault>
+    ensures ok { IfOk result (λ c. IsWithinLimits program.now × IsExpansion program.now c) }
     ensures few { IfOk result (λ c. (pairs_in c.ops ≤ 262144) × (length c.ops ≤ 786432)) }
-    ensures limit { (kind : LimitKind) (count : ℕ) → IsErrOf result (ExpandFault.Limit kind count) → PassesFirst scope.now kind count }
+    ensures limit { (kind : LimitKind) (count : ℕ) → IsErrOf result (ExpandFault.Limit kind count) → PassesFirst program.now kind count }
 
     // A program within the limits is answered by its list, and one that passes a limit by that limit, or both by want of
     // memory.
-    ensures within { IsWithinLimits scope.now → IfErr result (λ e. e ≡ ExpandFault.Memory) }
-    ensures passes { (kind : LimitKind) (count : ℕ) → PassesFirst scope.now kind count
+    ensures within { IsWithinLimits program.now → IfErr result (λ e. e ≡ ExpandFault.Memory) }
+    ensures passes { (kind : LimitKind) (count : ℕ) → PassesFirst program.now kind count
         → IsErrAnd result (λ e. (e ≡ ExpandFault.Limit kind count) ⊎ (e ≡ ExpandFault.Memory)) }
 {
-    native(alloc, scope)
+    native(alloc, program)
 }

@@ -30,7 +30,7 @@ impl<'a> Numbering<'a> {
     ghost use Rattle.std.specs.List.{AllByRecursion};
     ghost use Rattle.std.specs.Map.{lookup};
     ghost use Rattle.std.specs.Str.{bytes_eq};
-    ghost use Rattle.qasm_scope.specs.Applications.{applied};
+    ghost use Rattle.qasm_names.specs.Applications.{applied};
     ghost use Rattle.qasm_expand.specs.RegisterKinds.{registers_of, place_number, IsPlaceIn};
 
     /// The places of this kind that the statements declare.

@@ -32,7 +32,7 @@ impl<'a> Model for Registers<'a> {
 impl<'a> Registers<'a> {
     ghost use Rattle.std.specs.Prelude.{None, ◌∷◌, [], IfOk, map};
     ghost use Rattle.std.specs.List.{AllByRecursion};
-    ghost use Rattle.qasm_scope.specs.Applications.{applications, applied};
+    ghost use Rattle.qasm_names.specs.Applications.{applications, applied};
     ghost use Rattle.qasm_expand.specs.Items.{qubit_number, bit_number, qubit_count, bit_count};
     ghost use Rattle.qasm_expand.specs.Limits.{passed_before_calls};
     ghost use Rattle.qasm_expand.specs.RegisterKinds.{IsPlaceIn};

@@ -9,8 +9,8 @@ use crate::fault::ExpandFault;
 use crate::frame::{Frame, qubits_at};
 use crate::walk::Walk;
 use crate::write::write_ops;
+use qasm_names::{Bound, GateDef, Target};
 use qasm_parse::Expr;
-use qasm_scope::{Bound, GateDef, Target};
 use smallvec::SmallVec;
 use std::alloc::Global;
 use zac_gates::{Bytes, List, Op};
@@ -31,16 +31,16 @@ impl Walk {
       Steps,
       VisitsCall,
       Walks,
-      Writes,
+      AddsOps,
       angles_in,
       behind_call,
       passed_by_call,
       pending,
     };
-    ghost use Rattle.qasm_expand.specs.AngleNodes.{IsClosed, IsExprOver};
+    ghost use Rattle.qasm_expand.specs.AngleNodes.{HasNoNames, IsExprOver};
     ghost use Rattle.qasm_expand.specs.Fit.{IsFit};
     ghost use Rattle.qasm_expand.specs.Top.{HaveShortNumbers};
-    ghost use Rattle.qasm_scope.specs.Bound.{IsWellBound};
+    ghost use Rattle.qasm_names.specs.Bound.{IsWellBound};
 
     /// Counts a call of this depth with its angles, where it stands in the body of a gate with these parameters that is
     /// called with the outer angles.
@@ -70,10 +70,10 @@ impl Walk {
         angles: List<Expr>,
         qubits: SmallVec<u32, 4>,
     ) -> Result<(), ExpandFault>
-        requires closed { AllByRecursion IsClosed angles }
+        requires closed { AllByRecursion HasNoNames angles }
         requires small { AllByRecursion IsSmall angles }
         ensures frames { OnOk result (OpensFrame (reverse frames.old.items) target angles qubits.items (reverse frames.new.items)) }
-        ensures ops { OnOk result (Writes self.old self.new (ops_on target angles qubits.items)) }
+        ensures ops { OnOk result (AddsOps self.old self.new (ops_on target angles qubits.items)) }
         ensures err { IfErr result (λ e. e ≡ ExpandFault.Memory) }
     {
         if let Target::Gate { place } = target {
@@ -138,7 +138,7 @@ impl Walk {
         requires over { AllByRecursion (λ (e : Expr). IsExprOver gate.now.params e) call.now.exprs }
         requires below { AllByRecursion (λ i. i < length frame.qubits.items) call.now.args }
         requires params { length frame.angles ≡ length gate.now.params }
-        requires closed { AllByRecursion IsClosed frame.angles }
+        requires closed { AllByRecursion HasNoNames frame.angles }
         ensures frames { OnOk result (OpensFrame (behind_call frame ∷ reverse frames.old.items) call.now.target
             (angles_in gate.now.params frame.angles call.now.exprs) (map (λ i. get_or frame.qubits.items i 0) call.now.args)
             (reverse frames.new.items)) }
@@ -179,7 +179,7 @@ impl Walk {
         requires over { AllByRecursion (λ (e : Expr). IsExprOver gate.now.params e) call.now.exprs }
         requires below { AllByRecursion (λ i. i < length frame.qubits.items) call.now.args }
         requires params { length frame.angles ≡ length gate.now.params }
-        requires closed { AllByRecursion IsClosed frame.angles }
+        requires closed { AllByRecursion HasNoNames frame.angles }
         ensures frames { OnOk result (OpensFrame (behind_call frame ∷ reverse frames.old.items) call.now.target
             (angles_in gate.now.params frame.angles call.now.exprs) (map (λ i. get_or frame.qubits.items i 0) call.now.args)
             (reverse frames.new.items)) }

@@ -2,10 +2,10 @@
 
 ghost use Rattle.std.specs.Prelude.{◌≡◌, ℕ, ◌<◌, ◌∷◌, [], List, length, OnOk, IfErr};
 ghost use Rattle.std.specs.List.{AllByRecursion};
-ghost use Rattle.qasm_scope.specs.declared.gate.GateDef.{GateDef};
-ghost use Rattle.qasm_scope.specs.Applications.{applications, applied};
-ghost use Rattle.qasm_scope.specs.Bound.{IsWellBound};
-ghost use Rattle.qasm_expand.specs.AngleNodes.{IsClosed};
+ghost use Rattle.qasm_names.specs.declared.gate.GateDef.{GateDef};
+ghost use Rattle.qasm_names.specs.Applications.{applications, applied};
+ghost use Rattle.qasm_names.specs.Bound.{IsWellBound};
+ghost use Rattle.qasm_expand.specs.AngleNodes.{HasNoNames};
 ghost use Rattle.qasm_expand.specs.Fit.{Suits};
 ghost use Rattle.qasm_expand.specs.RegisterKinds.{IsPlaceIn};
 ghost use Rattle.qasm_expand.specs.Sized.{sized};
@@ -16,8 +16,8 @@ ghost use Rattle.qasm_expand.specs.declared.kind.RegisterKind.{RegisterKind};
 use crate::fault::ExpandFault;
 use crate::registers::Registers;
 use crate::walk::Walk;
+use qasm_names::{GateDef, Target};
 use qasm_parse::{Arg, BodyOp};
-use qasm_scope::{GateDef, Target};
 use std::alloc::Global;
 
 /// Visits a call in each of its applications.
@@ -31,7 +31,7 @@ pub(crate) fn apply_all(
 ) -> Result<(), ExpandFault>
     requires bound { (place : ℕ) → IsWellBound gates.now place }
     requires short { HaveShortNumbers gates.now }
-    requires closed { AllByRecursion IsClosed call.now.exprs }
+    requires closed { AllByRecursion HasNoNames call.now.exprs }
     requires suits { Suits gates.now target (length call.now.exprs) (length call.now.args) }
     requires places { (k : ℕ) → k < applications (sized registers.now) call.now.args
         → AllByRecursion (λ arg. IsPlaceIn RegisterKind.Qubit registers.now (applied arg k)) call.now.args }

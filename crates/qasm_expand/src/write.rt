@@ -3,13 +3,13 @@
 ghost use Rattle.std.specs.Prelude.{◌≡◌, [], ◌∷◌, ◌++◌, IsTrue, IfOk, OnOk};
 ghost use Rattle.std.specs.List.{AllByRecursion};
 ghost use Rattle.zac_gates.specs.Angle.{is_angle};
-ghost use Rattle.qasm_expand.specs.Native.{ops_on, hadamard};
+ghost use Rattle.qasm_expand.specs.Native.{ops_on, hadamard_angles};
 ghost use Rattle.qasm_expand.specs.Walks.{IsSmall};
-ghost use Rattle.qasm_expand.specs.AngleNodes.{IsClosed};
+ghost use Rattle.qasm_expand.specs.AngleNodes.{HasNoNames};
 
 use crate::angle_text::angle_text_of;
+use qasm_names::Target;
 use qasm_parse::Expr;
-use qasm_scope::Target;
 use std::alloc::Global;
 use zac_gates::{Angle, Angles, List, Memory, Op};
 
@@ -24,7 +24,7 @@ fn angle(alloc: Global, text: &[u8]) -> Result<Angle, Memory>
 
 /// The angles of a Hadamard gate.
 fn hadamard(alloc: Global) -> Result<Angles, Memory>
-    ensures { IfOk result (λ a. a ≡ hadamard) }
+    ensures { IfOk result (λ a. a ≡ hadamard_angles) }
 {
     Ok(Angles {
         theta: angle(alloc, b"(pi/2)")?,
@@ -42,7 +42,7 @@ fn write_u(
     phi: &Expr,
     lambda: &Expr,
 ) -> Result<(), Memory>
-    requires closed { AllByRecursion IsClosed (theta.now ∷ phi.now ∷ lambda.now ∷ []) }
+    requires closed { AllByRecursion HasNoNames (theta.now ∷ phi.now ∷ lambda.now ∷ []) }
     requires small { AllByRecursion IsSmall (theta.now ∷ phi.now ∷ lambda.now ∷ []) }
     ensures { OnOk result (ops.new.items ≡ ops.old.items ++ ops_on Target.U (theta.now ∷ phi.now ∷ lambda.now ∷ []) (q ∷ [])) }
 {
@@ -79,7 +79,7 @@ pub(crate) fn write_ops(
     angles: &[Expr],
     qubits: &[u32],
 ) -> Result<(), Memory>
-    requires closed { AllByRecursion IsClosed angles.now }
+    requires closed { AllByRecursion HasNoNames angles.now }
     requires small { AllByRecursion IsSmall angles.now }
     ensures { OnOk result (ops.new.items ≡ ops.old.items ++ ops_on target angles.now qubits.now) }
 {

@@ -12,7 +12,7 @@ use Rattle.qasm_lex.specs.Bytes.{is_blank, AllPass}
 use Rattle.qasm_lex.specs.Classes.{class_of}
 use Rattle.qasm_lex.specs.Forms.{IsOneOf, IsPiece, IsBlank, IsComment, IsReal, signs}
 use Rattle.qasm_lex.specs.Lexed.{Lexed}
-use Rattle.qasm_lex.specs.Cuts.{Piece, IsLongest, NothingBegins, text_of, AreLongest, tokens_of, AreTokensOf, IsLexFault}
+use Rattle.qasm_lex.specs.Cuts.{Piece, IsLongest, NothingBegins, piece_text, AreLongest, tokens_of, AreTokensOf, IsLexFault}
 use Rattle.qasm_lex.proofs.FirstBytes.{Begins, begins, one_of, class_of_blank}
 use Rattle.qasm_lex.proofs.LongestNumbers.{whole_digits}
 
@@ -202,21 +202,21 @@ longest_once p q r s same left right =
     (λ i. record { kind = kinds i; text = parts.0 i }, parts.1)
 
 -- pieces that are each the longest are one list, where nothing begins behind them
-pub cut_once : (ps qs : List Piece) (r s : List ℕ) → flat_map text_of ps ++ r ≡ flat_map text_of qs ++ s → AreLongest ps r → AreLongest qs s → NothingBegins r → NothingBegins s → (ps ≡ qs) × (r ≡ s)
+pub cut_once : (ps qs : List Piece) (r s : List ℕ) → flat_map piece_text ps ++ r ≡ flat_map piece_text qs ++ s → AreLongest ps r → AreLongest qs s → NothingBegins r → NothingBegins s → (ps ≡ qs) × (r ≡ s)
 cut_once [] [] r s same left right none_left none_right = (refl, same)
 cut_once [] (q ∷ qs) r s same left right none_left none_right =
-    absurd (none_left q.kind q.text (flat_map text_of qs ++ s) (sym (append_assoc q.text (flat_map text_of qs) s) ∙ sym same) right.0.is_piece)
+    absurd (none_left q.kind q.text (flat_map piece_text qs ++ s) (sym (append_assoc q.text (flat_map piece_text qs) s) ∙ sym same) right.0.is_piece)
 cut_once (p ∷ ps) [] r s same left right none_left none_right =
-    absurd (none_right p.kind p.text (flat_map text_of ps ++ r) (sym (append_assoc p.text (flat_map text_of ps) r) ∙ same) left.0.is_piece)
+    absurd (none_right p.kind p.text (flat_map piece_text ps ++ r) (sym (append_assoc p.text (flat_map piece_text ps) r) ∙ same) left.0.is_piece)
 cut_once (p ∷ ps) (q ∷ qs) r s same left right none_left none_right =
-    let first = longest_once p q (flat_map text_of ps ++ r) (flat_map text_of qs ++ s) (sym (append_assoc p.text (flat_map text_of ps) r) ∙ same ∙ append_assoc q.text (flat_map text_of qs) s) left.0 right.0 in
+    let first = longest_once p q (flat_map piece_text ps ++ r) (flat_map piece_text qs ++ s) (sym (append_assoc p.text (flat_map piece_text ps) r) ∙ same ∙ append_assoc q.text (flat_map piece_text qs) s) left.0 right.0 in
     let others = cut_once ps qs r s first.1 left.1 right.1 none_left none_right in
     (λ i. first.0 i ∷ others.0 i, others.1)
 
 -- a source has one list of tokens
 pub tokens_once : (source : List ℕ) (one other : Lexed) → AreTokensOf source one → AreTokensOf source other → one ≡ other
 tokens_once source one other left right =
-    let same : flat_map text_of left.0 ++ [] ≡ flat_map text_of right.0 ++ [] = append-nil (flat_map text_of left.0) ∙ sym left.1 ∙ right.1 ∙ sym (append-nil (flat_map text_of right.0)) in
+    let same : flat_map piece_text left.0 ++ [] ≡ flat_map piece_text right.0 ++ [] = append-nil (flat_map piece_text left.0) ∙ sym left.1 ∙ right.1 ∙ sym (append-nil (flat_map piece_text right.0)) in
     let pieces = (cut_once left.0 right.0 [] [] same left.2 right.2 nothing_at_end nothing_at_end).0 in
     let tokens : one.tokens ≡ other.tokens = left.3 ∙ ap (tokens_of 0) pieces ∙ sym right.3 in
     let lengths : one.source_length ≡ other.source_length = left.4 ∙ sym right.4 in
@@ -225,7 +225,7 @@ tokens_once source one other left right =
 -- a source has tokens or a fault
 pub tokens_or_fault : (source : List ℕ) (lexed : Lexed) (at : ℕ) → AreTokensOf source lexed → IsLexFault source at → ⊥
 tokens_or_fault source lexed at left right =
-    let same : flat_map text_of left.0 ++ [] ≡ flat_map text_of right.0 ++ right.1 = append-nil (flat_map text_of left.0) ∙ sym left.1 ∙ right.2 in
+    let same : flat_map piece_text left.0 ++ [] ≡ flat_map piece_text right.0 ++ right.1 = append-nil (flat_map piece_text left.0) ∙ sym left.1 ∙ right.2 in
     let rest = (cut_once left.0 right.0 [] right.1 same left.2 right.3 nothing_at_end right.5).1 in
     omega (arith, right.4, ap length rest)
 
@@ -233,4 +233,4 @@ tokens_or_fault source lexed at left right =
 pub fault_once : (source : List ℕ) (one other : ℕ) → IsLexFault source one → IsLexFault source other → one ≡ other
 fault_once source one other left right =
     let pieces = (cut_once left.0 right.0 left.1 right.1 (sym left.2 ∙ right.2) left.3 right.3 left.5 right.5).0 in
-    left.6 ∙ ap (λ ps. length (flat_map text_of ps)) pieces ∙ sym right.6
+    left.6 ∙ ap (λ ps. length (flat_map piece_text ps)) pieces ∙ sym right.6

@@ -7,3 +7,5 @@ pub mod FirstClasses
 pub mod Found
 pub mod CutLemmas
 pub mod LexLoop
+pub mod FrontExistence
+pub mod LexedLemmas

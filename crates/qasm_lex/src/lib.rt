@@ -2,12 +2,11 @@
 //! the longest that stands at its place.
 #![tactic(auto)]
 
+pub mod laws;
 mod lexer;
 mod number;
 mod piece;
 pub mod run;
-#[cfg(test)]
-mod tests;
 mod token;
 
 pub use lexer::lex;

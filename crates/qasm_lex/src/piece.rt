@@ -10,7 +10,7 @@ use crate::run::{Run, byte_at, run_length};
 use crate::token::TokenKind;
 
 /// What a byte can begin.
-#[derive(Clone, Copy, Debug, PartialEq, Eq)]
+#[derive(Clone, Copy)]
 pub(crate) enum Class {
     /// A word.
     Lower,
@@ -31,7 +31,7 @@ pub(crate) enum Class {
 }
 
 /// A piece at the front of some bytes: a token, or with no kind a blank or a comment.
-#[derive(Clone, Copy, Debug, PartialEq, Eq)]
+#[derive(Clone, Copy)]
 pub(crate) struct Front {
     /// The token's kind.
     pub kind: Option<TokenKind>,

@@ -5,7 +5,7 @@ ghost use Rattle.std.specs.List.{prefix_len};
 ghost use Rattle.qasm_lex.specs.Fronts.{passes};
 
 /// A class of bytes that a run is made of.
-#[derive(Clone, Copy, Debug, PartialEq, Eq)]
+#[derive(Clone, Copy)]
 pub(crate) enum Run {
     /// Letters, digits and underscores.
     WordBytes,

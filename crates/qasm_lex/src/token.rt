@@ -6,7 +6,7 @@ use std::alloc::{AllocError, AllocFailed};
 use std::marker::Model;
 
 /// The kind of a token.
-#[derive(Clone, Copy, Debug, PartialEq, Eq)]
+#[derive(Clone, Copy)]
 pub enum TokenKind {
     /// A lower-case letter, then letters, digits and underscores.
     Word,
@@ -23,7 +23,7 @@ pub enum TokenKind {
 }
 
 /// A token of a source, with the offset of its first byte and the offset behind its last.
-#[derive(Clone, Copy, Debug, PartialEq, Eq)]
+#[derive(Clone, Copy)]
 pub struct Token {
     /// What it is.
     pub kind: TokenKind,
@@ -34,7 +34,7 @@ pub struct Token {
 }
 
 /// Why a source has no tokens.
-#[derive(Clone, Copy, Debug, PartialEq, Eq)]
+#[derive(Clone, Copy)]
 pub enum LexFault {
     /// Memory ran out.
     Memory,
@@ -66,7 +66,7 @@ impl<T: Drop> From<AllocFailed<T>> for LexFault {
 
 /// The tokens of a source, in order, each within the source. Contracts see the list of the tokens and the number of
 /// bytes of the source.
-#[derive(Debug, Drop)]
+#[derive(Drop)]
 pub struct Tokens {
     items: Vec<Token>,
     source_length: u32,

@@ -50,8 +50,19 @@ answer_err tokens from end at is =
     let h = subst (Agrees (StatementAt from) end (drop from tokens)) is ((decides_at from end).right (drop from tokens)) in
     (h.0, h.1, h.2, h.3, h.4, none_of_stops from h.0 h.1 h.5)
 
+-- a statement stands at a place, or a fault does
+pub some_statement_or_fault : (tokens : List Lexeme) (from end : ℕ) → ((s : Stmt) × (next : ℕ) × IsStatement tokens from s next) ⊎ ((at : ℕ) × IsSyntaxFault tokens from end at)
+some_statement_or_fault tokens from end = by_answer (reading_at from end (drop from tokens)) refl where
+  by_answer : (o : Result (Stmt × List Lexeme) ℕ) → reading_at from end (drop from tokens) ≡ o → ((s : Stmt) × (next : ℕ) × IsStatement tokens from s next) ⊎ ((at : ℕ) × IsSyntaxFault tokens from end at)
+  by_answer (Err at) is = inr (at, answer_err tokens from end at is)
+  by_answer (Ok (s, left)) is =
+      let h = subst (Agrees (StatementAt from) end (drop from tokens)) is ((decides_at from end).right (drop from tokens)) in
+      let some = statement_some from h.0 s h.2 in
+      let lengths : length tokens - from ≡ length h.0 + length left = flip (length-drop from tokens) ∙ ap length h.1 ∙ length-append h.0 left in
+      inl (s, length tokens - length left, answer_ok tokens from end s left (length tokens - length left) (omega (arith, some, lengths)) is (omega (arith, some, lengths)))
+
 -- one statement stands at a place
-statement_once : (tokens : List Lexeme) (from : ℕ) (s t : Stmt) (n m : ℕ) → IsStatement tokens from s n → IsStatement tokens from t m → (s ≡ t) × (n ≡ m)
+pub statement_once : (tokens : List Lexeme) (from : ℕ) (s t : Stmt) (n m : ℕ) → IsStatement tokens from s n → IsStatement tokens from t m → (s ≡ t) × (n ≡ m)
 statement_once tokens from s t n m left right =
     let d = drop from tokens in
     let whole : take (n - from) d ++ drop (n - from) d ≡ take (m - from) d ++ drop (m - from) d = take-append-drop (n - from) d ∙ flip (take-append-drop (m - from) d) in
@@ -68,7 +79,7 @@ blocked from front (y ∷ rest) none x m others s same word =
     let e : y ≡ x = cc in
     none m s (subst (λ z. StatementAt from (front ++ z ∷ m) s) (flip e) word)
 
-statement_or_fault : (tokens : List Lexeme) (from end : ℕ) (s : Stmt) (n at : ℕ) → IsStatement tokens from s n → IsSyntaxFault tokens from end at → ⊥
+pub statement_or_fault : (tokens : List Lexeme) (from end : ℕ) (s : Stmt) (n at : ℕ) → IsStatement tokens from s n → IsSyntaxFault tokens from end at → ⊥
 statement_or_fault tokens from end s n at read fault =
     by_meeting (take (n - from) (drop from tokens)) (drop (n - from) (drop from tokens)) read.derived (meet (take (n - from) (drop from tokens)) fault.0 (drop (n - from) (drop from tokens)) fault.1 (take-append-drop (n - from) (drop from tokens) ∙ fault.2)) where
       by_meeting : (word left : List Lexeme) → StatementAt from word s → ((m : List Lexeme) × (word ≡ fault.0 ++ m) × (fault.1 ≡ m ++ left)) ⊎ ((x : Lexeme) × (m : List Lexeme) × (fault.0 ≡ word ++ x ∷ m) × (left ≡ x ∷ (m ++ fault.1))) → ⊥
@@ -82,7 +93,7 @@ statement_or_fault tokens from end s n at read fault =
             blocked from fault.0 fault.1 fault.5 x m (m ++ left) s rest (subst (λ t. StatementAt from t s) same is)
 
 -- one fault stands at a place
-fault_once : (tokens : List Lexeme) (from end one other : ℕ) → IsSyntaxFault tokens from end one → IsSyntaxFault tokens from end other → one ≡ other
+pub fault_once : (tokens : List Lexeme) (from end one other : ℕ) → IsSyntaxFault tokens from end one → IsSyntaxFault tokens from end other → one ≡ other
 fault_once tokens from end one other f g =
     by_meeting (meet f.0 g.0 f.1 g.1 (flip f.2 ∙ g.2)) where
       longer : (front rest : List Lexeme) → BeginsNone from front rest → (x : Lexeme) (m others : List Lexeme) → rest ≡ x ∷ others → (far : List Lexeme) → Begins from far → far ≡ front ++ x ∷ m → ⊥

@@ -10,6 +10,7 @@ pub mod StatementLemmas
 pub mod MoveLemmas
 pub mod LoopLemmas
 pub mod AnswerLemmas
+pub mod FallLemmas
 pub mod PostfixLemmas
 pub mod SpeltLemmas
 pub mod NumberLemmas

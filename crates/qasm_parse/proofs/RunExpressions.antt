@@ -12,7 +12,7 @@ use Rattle.qasm_parse.specs.Languages.{Language}
 use Rattle.qasm_parse.specs.Expressions.{expr, no_terms, term, no_factors, factor, power, no_exponent, leaf, node_of, Derives, done, expands, takes, reads, writes, Step, Taken, Refused, Passed, advance, closed, stepped, run}
 use Rattle.qasm_parse.proofs.DecidesLemmas.{Agrees, GoesOn, Stops, IsPrefixFree, Decides}
 use Rattle.qasm_parse.proofs.ExpressionLemmas.{InOrder, IsOperator}
-use Rattle.qasm_parse.proofs.StepLemmas.{StepMeans, Takes, Passes, advance_means}
+use Rattle.qasm_parse.proofs.StepLemmas.{StepMeans, TokenTaken, Passes, advance_means}
 
 abbrev pi : Lexeme
 pi = record { symbol = sym.Pi; text = []; at = 0 }
@@ -87,11 +87,11 @@ module _ (class : Symbol → Option Bool) (end : ℕ) (closes : (s : Symbol) × 
       by_tokens [] v word = absurd (omega (arith, ap length word.3, length-append word.1 (word.2 ∷ [])))
       by_tokens (x ∷ ts) v word = (x, ts, v, word)
 
-  taken_to : (parts left : List Part) (before more : List Node) (x : Lexeme) → Takes parts x left more → (ts : List Lexeme) (v : List Node × Bool) → PartsThen class left (before ++ more) ts v → PartsThen class parts before (x ∷ ts) v
+  taken_to : (parts left : List Part) (before more : List Node) (x : Lexeme) → TokenTaken parts x left more → (ts : List Lexeme) (v : List Node × Bool) → PartsThen class left (before ++ more) ts v → PartsThen class parts before (x ∷ ts) v
   taken_to parts left before more x m ts v word =
       (more ++ word.0, x ∷ word.1, word.2, ap (λ t. x ∷ t) word.3, m.to word.1 word.0 word.4, word.5 ∙ append_assoc before more word.0, word.6)
 
-  taken_from : (parts left : List Part) (before more : List Node) (x : Lexeme) → Takes parts x left more → (ts : List Lexeme) (v : List Node × Bool) → PartsThen class parts before (x ∷ ts) v → PartsThen class left (before ++ more) ts v
+  taken_from : (parts left : List Part) (before more : List Node) (x : Lexeme) → TokenTaken parts x left more → (ts : List Lexeme) (v : List Node × Bool) → PartsThen class parts before (x ∷ ts) v → PartsThen class left (before ++ more) ts v
   taken_from parts left before more x m ts v word =
       ⊎_elim (λ h. absurd (none_some (flip (blocked x.symbol (m.sign h.0 h.1)) ∙ h.3))) (λ h. let f = m.from h.1 h.0 h.4 in (f.0, h.1, h.2, h.3, f.2, h.5 ∙ ap (λ t. before ++ t) f.1 ∙ flip (append_assoc before more f.0), h.6)) (word_by parts before x ts v word)
 

@@ -18,7 +18,7 @@ use Rattle.qasm_parse.proofs.SymbolLemmas.{same_symbol-true, same_symbol-refl}
 use Rattle.qasm_parse.proofs.ExpressionLemmas.{AfterTerms, AfterFactors, AfterPower, InOrder, IsOperator, IsProduct, inv_nil, inv_token, inv_token_nil, inv_leaf, inv_leaf_nil, inv_write, inv_expr, inv_term, inv_power, inv_terms, inv_factors, inv_factor, inv_exponent, inv_atom, atom_not_empty, factor_not_empty, sum_cases, product_cases, leaf_start, paren_start, call_start, start_call, after_terms_block, after_factors_block, after_power_block}
 
 -- what a step says of the derivations from the parts
-pub record Takes (parts : List Part) (x : Lexeme) (left : List Part) (more : List Node) : Type 0 where
+pub record TokenTaken (parts : List Part) (x : Lexeme) (left : List Part) (more : List Node) : Type 0 where
   pub to : (ts : List Lexeme) (ns : List Node) → Derives left ts ns → Derives parts (x ∷ ts) (more ++ ns)
   pub from : (ts : List Lexeme) (all : List Node) → Derives parts (x ∷ ts) all → (ns : List Node) × (all ≡ more ++ ns) × Derives left ts ns
   pub sign : (ns : List Node) → Derives parts [] ns → IsOperator x.symbol
@@ -34,7 +34,7 @@ pub record Passes (parts : List Part) (x : Lexeme) (more : List Node) : Type 0 w
   pub none : (ts : List Lexeme) (all : List Node) → Derives parts (x ∷ ts) all → ⊥
 
 abbrev pub StepMeans : List Part → Lexeme → Step → Type 0
-StepMeans parts x (Taken left more) = Takes parts x left more
+StepMeans parts x (Taken left more) = TokenTaken parts x left more
 StepMeans parts x Refused = Refuses parts x
 StepMeans parts x (Passed more) = Passes parts x more
 

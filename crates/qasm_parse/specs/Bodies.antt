@@ -1,4 +1,4 @@
--- The items of a body: an operation, or the end.
+-- Inside: the items of a body: an operation, or the end.
 use Rattle.std.specs.Prelude.{List, [], ◌∷◌, Bool, true, false, Option, Some, None}
 use Rattle.qasm_parse.specs.declared.stmt.BodyOp.{BodyOp}
 

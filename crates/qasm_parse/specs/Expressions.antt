@@ -15,7 +15,7 @@ use Rattle.qasm_parse.specs.declared.part.AtomStart.TheVariants as start
 use Rattle.qasm_parse.specs.Symbols.{Lexeme}
 use Rattle.qasm_parse.specs.SameSymbols.{same_symbol}
 
--- the word of a function
+-- The word of each function.
 abbrev pub function_symbol : Function → Symbol
 function_symbol fun.Sin = sym.Sin
 function_symbol fun.Cos = sym.Cos
@@ -52,10 +52,11 @@ leaf_node sym.Pi text at = Some node.Pi
 leaf_node sym.Identifier text at = Some (node.Name text at)
 leaf_node other text at = None
 
+-- The node of a number, of pi or of a name.
 abbrev pub leaf_of : Lexeme → Option Node
 leaf_of x = leaf_node x.symbol x.text x.at
 
--- the node of an operator
+-- The node of an operator.
 abbrev pub node_of : Operator → Node
 node_of op.Negate = node.Negate
 node_of (op.Apply f) = node.Apply f
@@ -65,7 +66,8 @@ node_of op.Times = node.Times
 node_of op.Over = node.Over
 node_of op.Power = node.Power
 
--- what these parts are read from, and the nodes that are written
+-- Tokens stand for parts of expressions, which write these nodes in postfix order: a part is replaced by a
+-- production's, a sign or a leaf takes a token, and an operator is written behind its operands.
 pub data Derives : List Part → List Lexeme → List Node → Type 0 where
   done : Derives [] [] []
   expands : {part : Part} {rest : List Part} {tokens : List Lexeme} {nodes : List Node} (parts : List Part) → Produces part parts → Derives (parts ++ rest) tokens nodes → Derives (part ∷ rest) tokens nodes
@@ -88,11 +90,13 @@ atom_start sym.Ln = start.Call fun.Ln
 atom_start sym.Sqrt = start.Call fun.Sqrt
 atom_start other = start.Nothing
 
+-- how a reader goes on by one token.
 abbrev pub sum_of : Symbol → Option Operator
 sum_of sym.Plus = Some op.Plus
 sum_of sym.Minus = Some op.Minus
 sum_of other = None
 
+-- how a reader goes on by one token.
 abbrev pub product_of : Symbol → Option Operator
 product_of sym.Times = Some op.Times
 product_of sym.Over = Some op.Over
@@ -105,15 +109,18 @@ pub data Step : Type 0 where
   Refused : Step
   Passed : (nodes : List Node) → Step
 
+-- how a reader goes on by one token.
 abbrev pub wrote : Node → Step → Step
 wrote n (Taken parts nodes) = Taken parts (n ∷ nodes)
 wrote n Refused = Refused
 wrote n (Passed nodes) = Passed (n ∷ nodes)
 
+-- how a reader goes on by one token.
 abbrev pub leaf_step : Option Node → List Part → Step
 leaf_step (Some n) rest = Taken rest (n ∷ [])
 leaf_step None rest = Refused
 
+-- how a reader goes on by one token.
 abbrev pub atom_step : AtomStart → Lexeme → List Part → Step
 atom_step start.Leaf x rest = leaf_step (leaf_of x) rest
 atom_step start.Paren x rest = Taken (Expr ∷ Token sym.CloseParen ∷ rest) []
@@ -121,15 +128,18 @@ atom_step (start.Call f) x rest =
     Taken (Token sym.OpenParen ∷ Expr ∷ Token sym.CloseParen ∷ Write (op.Apply f) ∷ rest) []
 atom_step start.Nothing x rest = Refused
 
+-- how a reader goes on by one token.
 abbrev pub factor_step : Lexeme → List Part → Step
 factor_step x rest =
     if same_symbol x.symbol sym.Minus then Taken (Factor ∷ Write op.Negate ∷ rest) []
     else atom_step (atom_start x.symbol) x (Exponent ∷ rest)
 
+-- how a reader goes on by one token.
 abbrev pub sign_step : Option Operator → Part → Part → List Part → Step → Step
 sign_step (Some o) operand signs rest empty = Taken (operand ∷ Write o ∷ signs ∷ rest) []
 sign_step None operand signs rest empty = empty
 
+-- how a reader goes on by one token.
 abbrev pub advance : List Part → Lexeme → Step
 advance [] x = Passed []
 advance (Expr ∷ rest) x = factor_step x (Factors ∷ Terms ∷ rest)
@@ -150,6 +160,7 @@ abbrev pub closed : Lexeme → List Node → List Lexeme → Option Bool → Res
 closed x nodes tokens (Some b) = Ok ((nodes, b), tokens)
 closed x nodes tokens None = Err x.at
 
+-- how a reader goes on by one token.
 abbrev pub stepped : Lexeme → Option Bool → List Node → List Lexeme → (List Part → List Node → Result ((List Node × Bool) × List Lexeme) ℕ) → Step → Result ((List Node × Bool) × List Lexeme) ℕ
 stepped x class nodes tokens go (Taken rest more) = go rest (nodes ++ more)
 stepped x class nodes tokens go Refused = Err x.at

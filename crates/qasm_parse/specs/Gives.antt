@@ -1,4 +1,4 @@
--- What a function of the code returned is what a reader on lists gives.
+-- Inside: what a function of the code returned is what a reader on lists gives.
 use Rattle.std.specs.Prelude.{◌≡◌, ℕ, List, Result, Ok, Err}
 use Rattle.std.specs.Borrow.{Bor}
 use Rattle.qasm_lex.specs.declared.token.Token.{Token}

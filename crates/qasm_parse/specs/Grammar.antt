@@ -20,26 +20,31 @@ use Rattle.qasm_parse.specs.Languages.{Language, Value, Token, OneOf, Or, Listed
 use Rattle.qasm_parse.specs.Expressions.{Derives}
 use Rattle.qasm_parse.specs.Openings.{verb_of, body_verb_of, opening_of, is_number}
 
--- digits as a number, where one past 2 ^ 64 - 1 stands as 2 ^ 64 - 1
+-- Digits as a number; one past 2⁶⁴ − 1 stands as 2⁶⁴ − 1.
 abbrev pub number_of : List ℕ → ℕ
 number_of text = min (fold (λ n b. 10 * n + (b - 48)) 0 text) (2 ^ 64 - 1)
 
--- a string without its quotes
+-- A string without its quotation marks.
 abbrev pub unquoted : List ℕ → List ℕ
 unquoted text = take (length text - 2) (drop 1 text)
 
+-- The values of a name, of an argument without and with an index, and of an operation, with the offset of the name.
 abbrev pub named : Lexeme → Named
 named x = record { word = x.text; at = x.at }
 
+-- The values of a name, of an argument without and with an index, and of an operation, with the offset of the name.
 abbrev pub whole_arg : Lexeme → Arg
 whole_arg x = record { word = x.text; index = None; at = x.at }
 
+-- The values of a name, of an argument without and with an index, and of an operation, with the offset of the name.
 abbrev pub indexed_arg : Lexeme → Lexeme → Arg
 indexed_arg x n = record { word = x.text; index = Some (number_of n.text); at = x.at }
 
+-- The values of a name, of an argument without and with an index, and of an operation, with the offset of the name.
 abbrev pub operation : Lexeme → List Expr → List Arg → BodyOp
 operation x exprs args = record { name = x.text; at = x.at; exprs = exprs; args = args }
 
+-- A name; an argument without an index; one with an index; either.
 abbrev pub Name : Language Named
 Name = do
   x ← Token sym.Identifier
@@ -51,6 +56,7 @@ Whole = do
   x ← Token sym.Identifier
   Value (whole_arg x)
 
+-- A name; an argument without an index; one with an index; either.
 abbrev pub Indexed : Language Arg
 Indexed = do
   x ← Token sym.Identifier
@@ -63,7 +69,7 @@ Indexed = do
 abbrev pub Argument : Language Arg
 Argument = Or Indexed Whole
 
--- an expression, as its nodes in postfix order
+-- An expression, as its nodes in postfix order.
 abbrev pub Expression : Language Expr
 Expression tokens v = Derives (part.Expr ∷ []) tokens v
 
@@ -140,11 +146,13 @@ AfterBodyVerb body.GateCx x = GateCx Whole x
 AfterBodyVerb body.Call x = Call Whole x
 AfterBodyVerb body.Barrier x = Arguments Whole x []
 
+-- An operation of a body; a body up to its closing brace.
 abbrev pub BodyOperation : Language BodyOp
 BodyOperation = do
   v ← OneOf body_verb_of
   AfterBodyVerb v.0 v.1
 
+-- An operation of a body; a body up to its closing brace.
 abbrev pub Body : Language (List BodyOp)
 Body = do
   ops ← Many BodyOperation
@@ -157,6 +165,7 @@ ArgumentNames stop params = do
   args ← ListedUntil Name stop
   Value (params, args)
 
+-- The names of a declaration: parameters, perhaps, and arguments.
 abbrev pub Signature : Symbol → Language (List Named × List Named)
 Signature stop =
     Or (do
@@ -165,6 +174,7 @@ Signature stop =
       ArgumentNames stop params)
     (ArgumentNames stop [])
 
+-- A register's name and size.
 abbrev pub Register : (Lexeme → ℕ → Stmt) → Language Stmt
 Register make = do
   x ← Token sym.Identifier
@@ -174,7 +184,7 @@ Register make = do
   _ ← Token sym.Semicolon
   Value (make x (number_of n.text))
 
--- what follows the first token of a statement
+-- What follows the first token of a statement.
 abbrev pub AfterOpening : Opening → Lexeme → Language Stmt
 AfterOpening opens.Include x = do
   s ← Token sym.Text
@@ -205,13 +215,13 @@ AfterOpening opens.If x = do
   Value (stmt.If x.at)
 AfterOpening (opens.Verb v) x = AfterVerb v x
 
--- a statement behind the version
+-- A statement behind the version.
 abbrev pub Statement : Language Stmt
 Statement = do
   v ← OneOf opening_of
   AfterOpening v.0 v.1
 
--- the version, which opens a source
+-- The version, which opens a source.
 abbrev pub Version : Language Stmt
 Version = do
   _ ← Token sym.Header

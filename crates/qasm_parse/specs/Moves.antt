@@ -1,4 +1,4 @@
--- What a token does to an expression that is being read.
+-- Inside: what a token does to an expression that is being read.
 use Rattle.std.specs.Prelude.{◌≡◌, List, [], ◌∷◌, ◌++◌, reverse, Option, Some, None, true, false}
 use Rattle.qasm_parse.specs.declared.stmt.Node.{Node}
 use Rattle.qasm_parse.specs.declared.part.Part.{Part}

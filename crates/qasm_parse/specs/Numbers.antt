@@ -9,16 +9,17 @@ use Rattle.qasm_parse.specs.declared.symbol.Symbol.TheVariants as sym
 use Rattle.qasm_parse.specs.Symbols.{Lexeme}
 use Rattle.qasm_parse.specs.Postfix.{IsPostfix}
 
--- one digit or more, or a real
+-- A text is one digit or more, or a real.
 abbrev pub IsNumber : List ℕ → Type 0
 IsNumber text = IsDigits text ⊎ IsReal text
 
--- the text of a number node is a number
+-- The text of a number node is a number.
 abbrev pub HasNumber : Node → Type 0
 HasNumber (node.Number text) = IsNumber text
 HasNumber other = Unit {0}
 
--- the nodes are one expression in postfix order, and the text of each number node is a number
+-- Nodes are one expression in postfix order, and the text of each number node is a number. It is the invariant of an
+-- `Expr`.
 pub record IsExpression (nodes : List Node) : Type 0 where
   pub postfix : IsPostfix nodes
   pub numbers : AllByRecursion HasNumber nodes
@@ -29,6 +30,7 @@ Spells sym.Whole text = IsNumber text
 Spells sym.Real text = IsNumber text
 Spells other text = Unit {0}
 
+-- the text of a whole number or of a real is a number; the same of one token, and of each of some tokens.
 abbrev pub IsSpelt : Lexeme → Type 0
 IsSpelt x = Spells x.symbol x.text
 

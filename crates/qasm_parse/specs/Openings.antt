@@ -12,6 +12,7 @@ use Rattle.qasm_parse.specs.declared.opening.Follow.{Follow}
 use Rattle.qasm_parse.specs.declared.opening.Follow.TheVariants.{Only, Until}
 use Rattle.qasm_parse.specs.SameSymbols.{same_symbol}
 
+-- Which symbols begin an operation at the top: `U`, `CX`, a name, `measure`, `reset`.
 abbrev pub verb_of : Symbol → Option Verb
 verb_of sym.GateU = Some verb.GateU
 verb_of sym.GateCx = Some verb.GateCx
@@ -20,6 +21,7 @@ verb_of sym.Measure = Some verb.Measure
 verb_of sym.Reset = Some verb.Reset
 verb_of other = None
 
+-- Which symbols begin an operation in a gate's body: `U`, `CX`, a name, `barrier`.
 abbrev pub body_verb_of : Symbol → Option BodyVerb
 body_verb_of sym.GateU = Some body.GateU
 body_verb_of sym.GateCx = Some body.GateCx
@@ -27,6 +29,7 @@ body_verb_of sym.Identifier = Some body.Call
 body_verb_of sym.Barrier = Some body.Barrier
 body_verb_of other = None
 
+-- Which symbols begin a statement behind the version.
 abbrev pub opening_of : Symbol → Option Opening
 opening_of sym.Include = Some opens.Include
 opening_of sym.Qreg = Some opens.Qreg
@@ -42,13 +45,13 @@ opening_of sym.Measure = Some (opens.Verb verb.Measure)
 opening_of sym.Reset = Some (opens.Verb verb.Reset)
 opening_of other = None
 
--- whole numbers and reals
+-- Whole numbers and reals.
 abbrev pub is_number : Symbol → Option Bool
 is_number sym.Whole = Some true
 is_number sym.Real = Some true
 is_number other = None
 
--- whether a further item follows, where the symbol may stand behind one
+-- What may stand behind an item: one sign alone, or a comma and that sign.
 abbrev pub follows : Follow → Symbol → Option Bool
 follows (Only stop) symbol = if same_symbol symbol stop then Some false else None
 follows (Until stop) symbol =

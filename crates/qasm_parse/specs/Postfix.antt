@@ -8,6 +8,7 @@ abbrev pub with_one : ℕ → (ℕ → Option ℕ) → Option ℕ
 with_one zero go = None
 with_one (suc n) go = go (suc n)
 
+-- An operator finds one operand, or two, and leaves one.
 abbrev pub with_two : ℕ → (ℕ → Option ℕ) → Option ℕ
 with_two zero go = None
 with_two (suc zero) go = None
@@ -27,6 +28,6 @@ operands (node.Times ∷ nodes) n = with_two n (operands nodes)
 operands (node.Over ∷ nodes) n = with_two n (operands nodes)
 operands (node.Power ∷ nodes) n = with_two n (operands nodes)
 
--- the nodes are one expression
+-- The nodes are one expression: each operator finds its operands, and one is left.
 abbrev pub IsPostfix : List Node → Type 0
 IsPostfix nodes = operands nodes 0 ≡ Some 1

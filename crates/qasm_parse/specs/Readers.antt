@@ -1,4 +1,4 @@
--- Readers, as functions on lists: a value and the tokens after it, or the offset of a fault.
+-- Inside: readers, as functions on lists: a value and the tokens after it, or the offset of a fault.
 use Rattle.std.specs.Prelude.{ℕ, suc, zero, List, [], ◌∷◌, ◌++◌, length, Option, Some, None, Result, Ok, Err, Bool, if◌then◌else◌}
 use Rattle.qasm_parse.specs.declared.symbol.Symbol.{Symbol}
 use Rattle.qasm_parse.specs.Symbols.{Lexeme}
@@ -17,6 +17,7 @@ and_then (Ok x) f = f x
 and_then (Err e) f = Err e
 
 infixl 10 ◌>>=◌
+-- Tokens of the first language, and then tokens of the language that their value gives.
 abbrev pub ◌>>=◌ : {A B : Type 0} → Reader A → (A → Reader B) → Reader B
 ◌>>=◌ first next tokens = and_then (first tokens) (λ x. next x.0 x.1)
 

@@ -1,4 +1,4 @@
--- How each part of the grammar is read, as a function on lists of tokens.
+-- Inside: how each part of the grammar is read, as a function on lists of tokens.
 use Rattle.std.specs.Prelude.{ℕ, List, [], ◌∷◌, Bool, true, false}
 use Rattle.qasm_parse.specs.declared.symbol.Symbol.{Symbol}
 use Rattle.qasm_parse.specs.declared.symbol.Symbol.TheVariants as sym

@@ -1,4 +1,4 @@
--- Which symbols are equal, as a test.
+-- Inside: which symbols are equal, as a test.
 use Rattle.std.specs.Prelude.{ℕ, Bool, ◌==◌}
 use Rattle.qasm_parse.specs.declared.symbol.Symbol.{Symbol}
 use Rattle.qasm_parse.specs.declared.symbol.Symbol.TheVariants.{Identifier, Whole, Real, Text, Header, GateU, GateCx, Include, Qreg, Creg, Gate, Opaque, Measure, Reset, Barrier, If, Pi, Sin, Cos, Tan, Exp, Ln, Sqrt, Semicolon, Comma, OpenParen, CloseParen, OpenBrace, CloseBrace, OpenBracket, CloseBracket, Plus, Minus, Times, Over, Power, Arrow, Equals}

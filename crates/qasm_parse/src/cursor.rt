@@ -4,7 +4,7 @@ ghost use Rattle.std.specs.Prelude.{◌≡◌, [], ◌∷◌, MatchOption, IfOk,
 ghost use Rattle.qasm_parse.specs.Gives.{Gives, seen, seen_one, seen_token};
 ghost use Rattle.qasm_parse.specs.Openings.{body_verb_of, follows, is_number, opening_of, verb_of};
 ghost use Rattle.qasm_parse.specs.Readers.{first, one_of, token};
-ghost use Rattle.qasm_parse.specs.Symbols.{lexemes_of, symbol_of, text_of};
+ghost use Rattle.qasm_parse.specs.Symbols.{lexemes_of, symbol_of, token_text};
 
 use crate::opening::{
     BodyVerb, Follow, Opening, Verb, body_verb_of, follows, is_number, opening_of, verb_of,
@@ -20,7 +20,7 @@ pub(crate) type Read<'a, V> = Result<(V, &'a [Token]), SyntaxFault>;
 
 /// The bytes of a token.
 pub(crate) fn text<'s>(source: &'s [u8], token: Token) -> &'s [u8]
-    ensures { result.now ≡ text_of source.now token }
+    ensures { result.now ≡ token_text source.now token }
 {
     let from = source.len().min(token.from as usize);
     let to = source.len().min(token.to as usize).max(from);
@@ -29,7 +29,7 @@ pub(crate) fn text<'s>(source: &'s [u8], token: Token) -> &'s [u8]
 
 /// The bytes of a token, as bytes of their own.
 pub(crate) fn word(alloc: Global, source: &[u8], token: Token) -> Result<Bytes, SyntaxFault>
-    ensures text { IfOk result (λ bytes. bytes ≡ text_of source.now token) }
+    ensures text { IfOk result (λ bytes. bytes ≡ token_text source.now token) }
     ensures only_memory { IfErr result (λ e. e ≡ SyntaxFault.Memory) }
 {
     Ok(Bytes::of(text(source, token).to_vec(alloc)?))
@@ -37,7 +37,7 @@ pub(crate) fn word(alloc: Global, source: &[u8], token: Token) -> Result<Bytes, 
 
 /// The symbol of a token.
 pub(crate) fn symbol_at(source: &[u8], token: Token) -> Symbol
-    ensures { result ≡ symbol_of token.kind (text_of source.now token) }
+    ensures { result ≡ symbol_of token.kind (token_text source.now token) }
 {
     symbol_of(token.kind, text(source, token))
 }

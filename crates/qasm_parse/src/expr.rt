@@ -28,7 +28,7 @@ use std::alloc::Global;
 use zac_gates::List;
 
 /// What a token does to the parts of an expression.
-#[derive(Clone, Copy, Debug, PartialEq, Eq)]
+#[derive(Clone, Copy)]
 pub enum Move {
     /// It is taken.
     Taken,
@@ -60,6 +60,15 @@ fn push(parts: &mut Vec<Part>, part: Part) -> Result<(), SyntaxFault>
 {
     parts.push(part)?;
     Ok(())
+}
+
+/// Two parts before the others, the second of them first.
+fn push_two(parts: &mut Vec<Part>, below: Part, above: Part) -> Result<(), SyntaxFault>
+    ensures pushed { OnOk result (reverse parts.new.items ≡ above ∷ below ∷ reverse parts.old.items) }
+    ensures only_memory { IfErr result (λ e. e ≡ SyntaxFault.Memory) }
+{
+    push(parts, below)?;
+    push(parts, above)
 }
 
 /// The next part, if there is one.
@@ -128,15 +137,13 @@ fn atom(
     match atom_start(symbol_at(source, token)) {
         AtomStart::Leaf => leaf(alloc, source, token, parts, nodes),
         AtomStart::Paren => {
-            push(parts, Part::Token(Symbol::CloseParen))?;
-            push(parts, Part::Expr)?;
+            push_two(parts, Part::Token(Symbol::CloseParen), Part::Expr)?;
             Ok(Move::Taken)
         }
         AtomStart::Call(function) => {
-            push(parts, Part::Write(Operator::Apply(function)))?;
-            push(parts, Part::Token(Symbol::CloseParen))?;
-            push(parts, Part::Expr)?;
-            push(parts, Part::Token(Symbol::OpenParen))?;
+            let write = Part::Write(Operator::Apply(function));
+            push_two(parts, write, Part::Token(Symbol::CloseParen))?;
+            push_two(parts, Part::Expr, Part::Token(Symbol::OpenParen))?;
             Ok(Move::Taken)
         }
         AtomStart::Nothing => Ok(Move::Refused),
@@ -156,9 +163,7 @@ fn factor(
     ensures only_memory { IfErr result (λ e. e ≡ SyntaxFault.Memory) }
 {
     if same_symbol(symbol_at(source, token), Symbol::Minus) {
-        let negated = Part::Factor;
-        push(parts, Part::Write(Operator::Negate))?;
-        push(parts, negated)?;
+        push_two(parts, Part::Write(Operator::Negate), Part::Factor)?;
         Ok(Move::Taken)
     } else {
         push(parts, Part::Exponent)?;
@@ -180,8 +185,7 @@ fn signed(
         None => Ok(None),
         Some(operator) => {
             push(parts, signs)?;
-            push(parts, Part::Write(operator))?;
-            push(parts, operand)?;
+            push_two(parts, Part::Write(operator), operand)?;
             Ok(Some(Move::Taken))
         }
     }
@@ -203,8 +207,7 @@ fn step(
     let symbol = symbol_at(source, token);
     match part {
         Part::Expr => {
-            push(parts, Part::Terms)?;
-            push(parts, Part::Factors)?;
+            push_two(parts, Part::Terms, Part::Factors)?;
             Ok(Some(factor(alloc, source, token, parts, nodes)?))
         }
         Part::Terms => signed(parts, sum_of(symbol), Part::Term, Part::Terms),

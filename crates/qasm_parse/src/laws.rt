@@ -1,10 +1,38 @@
-//! What an expression's numbers are, as laws. Each holds of every text and every list of nodes.
+//! What the definitions say of statements and of an expression's numbers, as laws. Each holds of every list of tokens, of
+//! every text or of every list of nodes.
 
-ghost use Rattle.std.specs.Prelude.{◌≡◌, ℕ, ◌<◌, List, Some, length, slice_get, IsTrue};
+ghost use Rattle.std.specs.Prelude.{◌≡◌, ◌⊎◌, ℕ, ◌<◌, List, Some, length, slice_get, IsTrue};
 ghost use Rattle.std.specs.List.{AllByRecursion, list_all};
 ghost use Rattle.zac_gates.specs.Angle.{is_angle_byte};
+ghost use Rattle.qasm_lex.specs.declared.token.Token.{Token};
 ghost use Rattle.qasm_parse.specs.declared.stmt.Node.{Node};
+ghost use Rattle.qasm_parse.specs.declared.stmt.Stmt.{Stmt};
 ghost use Rattle.qasm_parse.specs.Numbers.{HasNumber, IsNumber};
+ghost use Rattle.qasm_parse.specs.Statements.{FallInto, IsStatement, IsSyntaxFault};
+ghost use Rattle.qasm_parse.specs.Symbols.{Lexeme, lexemes_of};
+
+/// At a place among tokens one statement stands, with one place behind it, or one fault does, and never both.
+pub fn statement_or_one_fault()
+    ensures some { (tokens : List Lexeme) (from end : ℕ) → ((s : Stmt) × (next : ℕ) × IsStatement tokens from s next)
+        ⊎ ((at : ℕ) × IsSyntaxFault tokens from end at) }
+    ensures one_statement { (tokens : List Lexeme) (from : ℕ) (s t : Stmt) (next other : ℕ) → IsStatement tokens from s next
+        → IsStatement tokens from t other → (s ≡ t) × (next ≡ other) }
+    ensures one_fault { (tokens : List Lexeme) (from end one other : ℕ) → IsSyntaxFault tokens from end one
+        → IsSyntaxFault tokens from end other → one ≡ other }
+    ensures not_both { (tokens : List Lexeme) (from end : ℕ) (s : Stmt) (next at : ℕ) → IsStatement tokens from s next
+        → IsSyntaxFault tokens from end at → ⊥ }
+{}
+
+/// The tokens from a place up to another fall into statements in one way at most.
+pub fn tokens_fall_in_one_way()
+    ensures { (tokens : List Lexeme) (from : ℕ) (ss ts : List Stmt) (to : ℕ) → FallInto tokens from ss to
+        → FallInto tokens from ts to → ss ≡ ts }
+{}
+
+/// The grammar sees as many tokens as the source has.
+pub fn each_token_is_seen()
+    ensures { (source : List ℕ) (tokens : List Token) → length (lexemes_of source tokens) ≡ length tokens }
+{}
 
 /// The text of a number has a byte at least, and each of its bytes may stand in the text of an angle.
 pub fn numbers_have_angle_bytes()

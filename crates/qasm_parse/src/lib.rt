@@ -14,8 +14,6 @@ pub mod part;
 mod reader;
 pub mod stmt;
 pub mod symbol;
-#[cfg(test)]
-mod tests;
 
 pub use reader::{one_reading, statement};
 pub use stmt::{Arg, BodyOp, Expr, Function, Named, Node, Stmt, SyntaxFault};

@@ -6,7 +6,7 @@ ghost use Rattle.qasm_parse.specs.Openings.{body_verb_of, follows, is_number, op
 use crate::symbol::{Symbol, same_symbol};
 
 /// What is done to qubits at the top.
-#[derive(Clone, Copy, Debug, PartialEq, Eq)]
+#[derive(Clone, Copy)]
 pub enum Verb {
     /// `U`.
     GateU,
@@ -21,7 +21,7 @@ pub enum Verb {
 }
 
 /// What is done to qubits in a body.
-#[derive(Clone, Copy, Debug, PartialEq, Eq)]
+#[derive(Clone, Copy)]
 pub enum BodyVerb {
     /// `U`.
     GateU,
@@ -34,7 +34,7 @@ pub enum BodyVerb {
 }
 
 /// What a statement begins with.
-#[derive(Clone, Copy, Debug, PartialEq, Eq)]
+#[derive(Clone, Copy)]
 pub enum Opening {
     Include,
     Qreg,
@@ -106,7 +106,7 @@ pub(crate) fn is_number(symbol: Symbol) -> Option<bool>
 }
 
 /// What stands behind an item.
-#[derive(Clone, Copy, Debug, PartialEq, Eq)]
+#[derive(Clone, Copy)]
 pub enum Follow {
     /// This symbol.
     Only(Symbol),
@@ -139,7 +139,7 @@ pub(crate) fn follows(follow: Follow, symbol: Symbol) -> Option<bool>
 }
 
 /// Where an argument stands.
-#[derive(Clone, Copy, Debug, PartialEq, Eq)]
+#[derive(Clone, Copy)]
 pub enum Place {
     /// At the top, where an argument may have an index.
     Top,

@@ -7,7 +7,7 @@ use crate::stmt::Function;
 use crate::symbol::Symbol;
 
 /// An operator of an expression.
-#[derive(Clone, Copy, Debug, PartialEq, Eq)]
+#[derive(Clone, Copy)]
 pub enum Operator {
     Negate,
     Apply(Function),
@@ -19,7 +19,7 @@ pub enum Operator {
 }
 
 /// A part of an expression that is still to be read, or an operator that is to be written then.
-#[derive(Clone, Copy, Debug, PartialEq, Eq)]
+#[derive(Clone, Copy)]
 pub enum Part {
     /// An expression.
     Expr,
@@ -46,7 +46,7 @@ pub enum Part {
 }
 
 /// What an atom begins with.
-#[derive(Clone, Copy, Debug, PartialEq, Eq)]
+#[derive(Clone, Copy)]
 pub enum AtomStart {
     Leaf,
     Paren,

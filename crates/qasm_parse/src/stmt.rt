@@ -6,7 +6,7 @@ use std::marker::Model;
 use zac_gates::{Bytes, List};
 
 /// A function in an expression.
-#[derive(Clone, Copy, Debug, PartialEq, Eq)]
+#[derive(Clone, Copy)]
 pub enum Function {
     Sin,
     Cos,
@@ -17,7 +17,7 @@ pub enum Function {
 }
 
 /// A node of an expression in postfix order: an operator stands behind its operands.
-#[derive(Debug, Drop)]
+#[derive(Drop)]
 pub enum Node {
     /// A whole number or a real, as the source has it. In an `Expr` the text is one digit or more, or a real.
     Number { text: Bytes },
@@ -43,7 +43,7 @@ pub enum Node {
 
 /// An expression as its nodes in postfix order: each operator has its operands before it, and one operand is left at the
 /// end. The text of each number is one digit or more, or a real. Contracts see the list of the nodes.
-#[derive(Debug, Drop)]
+#[derive(Drop)]
 pub struct Expr {
     /// The nodes.
     pub nodes: List<Node>,
@@ -79,7 +79,7 @@ impl Expr {
 }
 
 /// A name with its offset. Both are plain data.
-#[derive(Debug, Drop)]
+#[derive(Drop)]
 pub struct Named {
     /// The name.
     pub word: Bytes,
@@ -88,7 +88,7 @@ pub struct Named {
 }
 
 /// An argument: a register, or with an index one of its places. All fields are plain data.
-#[derive(Debug, Drop)]
+#[derive(Drop)]
 pub struct Arg {
     /// The register's name, or an argument's in a body.
     pub word: Bytes,
@@ -100,7 +100,7 @@ pub struct Arg {
 
 /// A call: of `U`, `CX`, `barrier` or a gate. All fields are plain data, but that each angle is an `Expr`, which keeps the
 /// rules of an expression.
-#[derive(Debug, Drop)]
+#[derive(Drop)]
 pub struct BodyOp {
     /// `U`, `CX`, `barrier` or the gate's name.
     pub name: Bytes,
@@ -114,7 +114,7 @@ pub struct BodyOp {
 
 /// A statement. All fields are plain data: texts, sizes and offsets as they stand in the source, which no type bounds
 /// further. Only the angles of calls, in `call` and in `body`, are of a type that keeps a rule, `Expr`.
-#[derive(Debug, Drop)]
+#[derive(Drop)]
 pub enum Stmt {
     /// The version, which opens a source. The offset is that of the number.
     Version {
@@ -180,7 +180,7 @@ pub enum Stmt {
 }
 
 /// Why no statement is read.
-#[derive(Clone, Copy, Debug, PartialEq, Eq)]
+#[derive(Clone, Copy)]
 pub enum SyntaxFault {
     /// Memory ran out.
     Memory,

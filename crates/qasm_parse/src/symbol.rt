@@ -1,13 +1,20 @@
 //! The symbols that the grammar speaks of.
 
-ghost use Rattle.std.specs.Prelude.{◌≡◌};
-ghost use Rattle.qasm_parse.specs.Symbols.{capital_symbol, sign_symbol, symbol_of, word_symbol};
+ghost use Rattle.std.specs.Prelude.{◌≡◌, map};
+ghost use Rattle.qasm_parse.specs.Symbols.{
+  capital_symbol,
+  row_of,
+  sign_symbol,
+  symbol_in,
+  symbol_of,
+  word_symbol,
+};
 ghost use Rattle.qasm_parse.specs.SameSymbols.{same_symbol};
 
 use qasm_lex::TokenKind;
 
 /// What a token is to the grammar.
-#[derive(Clone, Copy, Debug, PartialEq, Eq)]
+#[derive(Clone, Copy, PartialEq, Eq)]
 pub enum Symbol {
     /// A word that isn't reserved.
     Identifier,
@@ -70,95 +77,72 @@ pub(crate) fn symbol_of(kind: TokenKind, text: &[u8]) -> Symbol
     }
 }
 
+/// The symbol beside a text in a table, or another one where the table doesn't have the text.
+fn symbol_in(rows: &[(&[u8], Symbol)], text: &[u8], other: Symbol) -> Symbol
+    ensures { result ≡ symbol_in (map row_of rows.now) text.now other }
+{
+    for row in rows {
+        if text == row.0 {
+            return row.1;
+        }
+    }
+    other
+}
+
 /// A reserved word, or else an identifier.
 fn word_symbol(text: &[u8]) -> Symbol
     ensures { result ≡ word_symbol text.now }
 {
-    if text == b"include".as_slice() {
-        Symbol::Include
-    } else if text == b"qreg".as_slice() {
-        Symbol::Qreg
-    } else if text == b"creg".as_slice() {
-        Symbol::Creg
-    } else if text == b"gate".as_slice() {
-        Symbol::Gate
-    } else if text == b"opaque".as_slice() {
-        Symbol::Opaque
-    } else if text == b"measure".as_slice() {
-        Symbol::Measure
-    } else if text == b"reset".as_slice() {
-        Symbol::Reset
-    } else if text == b"barrier".as_slice() {
-        Symbol::Barrier
-    } else if text == b"if".as_slice() {
-        Symbol::If
-    } else if text == b"pi".as_slice() {
-        Symbol::Pi
-    } else if text == b"sin".as_slice() {
-        Symbol::Sin
-    } else if text == b"cos".as_slice() {
-        Symbol::Cos
-    } else if text == b"tan".as_slice() {
-        Symbol::Tan
-    } else if text == b"exp".as_slice() {
-        Symbol::Exp
-    } else if text == b"ln".as_slice() {
-        Symbol::Ln
-    } else if text == b"sqrt".as_slice() {
-        Symbol::Sqrt
-    } else {
-        Symbol::Identifier
-    }
+    let words: [(&[u8], Symbol); 16] = [
+        (b"include", Symbol::Include),
+        (b"qreg", Symbol::Qreg),
+        (b"creg", Symbol::Creg),
+        (b"gate", Symbol::Gate),
+        (b"opaque", Symbol::Opaque),
+        (b"measure", Symbol::Measure),
+        (b"reset", Symbol::Reset),
+        (b"barrier", Symbol::Barrier),
+        (b"if", Symbol::If),
+        (b"pi", Symbol::Pi),
+        (b"sin", Symbol::Sin),
+        (b"cos", Symbol::Cos),
+        (b"tan", Symbol::Tan),
+        (b"exp", Symbol::Exp),
+        (b"ln", Symbol::Ln),
+        (b"sqrt", Symbol::Sqrt),
+    ];
+    symbol_in(&words, text, Symbol::Identifier)
 }
 
 /// One of the three capital words.
 fn capital_symbol(text: &[u8]) -> Symbol
     ensures { result ≡ capital_symbol text.now }
 {
-    if text == b"OPENQASM".as_slice() {
-        Symbol::Header
-    } else if text == b"U".as_slice() {
-        Symbol::GateU
-    } else {
-        Symbol::GateCx
-    }
+    let words: [(&[u8], Symbol); 2] = [(b"OPENQASM", Symbol::Header), (b"U", Symbol::GateU)];
+    symbol_in(&words, text, Symbol::GateCx)
 }
 
 /// A sign.
 fn sign_symbol(text: &[u8]) -> Symbol
     ensures { result ≡ sign_symbol text.now }
 {
-    if text == b";".as_slice() {
-        Symbol::Semicolon
-    } else if text == b",".as_slice() {
-        Symbol::Comma
-    } else if text == b"(".as_slice() {
-        Symbol::OpenParen
-    } else if text == b")".as_slice() {
-        Symbol::CloseParen
-    } else if text == b"{".as_slice() {
-        Symbol::OpenBrace
-    } else if text == b"}".as_slice() {
-        Symbol::CloseBrace
-    } else if text == b"[".as_slice() {
-        Symbol::OpenBracket
-    } else if text == b"]".as_slice() {
-        Symbol::CloseBracket
-    } else if text == b"+".as_slice() {
-        Symbol::Plus
-    } else if text == b"-".as_slice() {
-        Symbol::Minus
-    } else if text == b"*".as_slice() {
-        Symbol::Times
-    } else if text == b"/".as_slice() {
-        Symbol::Over
-    } else if text == b"^".as_slice() {
-        Symbol::Power
-    } else if text == b"->".as_slice() {
-        Symbol::Arrow
-    } else {
-        Symbol::Equals
-    }
+    let signs: [(&[u8], Symbol); 14] = [
+        (b";", Symbol::Semicolon),
+        (b",", Symbol::Comma),
+        (b"(", Symbol::OpenParen),
+        (b")", Symbol::CloseParen),
+        (b"{", Symbol::OpenBrace),
+        (b"}", Symbol::CloseBrace),
+        (b"[", Symbol::OpenBracket),
+        (b"]", Symbol::CloseBracket),
+        (b"+", Symbol::Plus),
+        (b"-", Symbol::Minus),
+        (b"*", Symbol::Times),
+        (b"/", Symbol::Over),
+        (b"^", Symbol::Power),
+        (b"->", Symbol::Arrow),
+    ];
+    symbol_in(&signs, text, Symbol::Equals)
 }
 
 /// Whether two symbols are the same.

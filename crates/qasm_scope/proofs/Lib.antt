@@ -2,11 +2,6 @@ pub mod TestLemmas
 pub mod LeastLemmas
 pub mod PairLemmas
 pub mod WordLemmas
-pub mod ApplicationLemmas
-pub mod KindLemmas
-pub mod TableLemmas
-pub mod ReadLemmas
-pub mod FixedLemmas
-pub mod PlaceLemmas
-pub mod ScopeLemmas
-pub mod BoundLemmas
+pub mod ApplicationsLemmas
+pub mod JudgedLemmas
+pub mod HeaderReadingLemmas

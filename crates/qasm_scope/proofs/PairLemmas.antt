@@ -4,7 +4,7 @@ use Rattle.std.specs.Prelude.{slice_get}
 use Rattle.std.specs.List.{Any}
 use Rattle.std.proofs.lemmas.List.{get_or-drop, length-drop}
 use Rattle.std.proofs.lemmas.Option.{slice_get_within, slice_get_read, get_or_from_slice_get, same_Some}
-use Rattle.qasm_scope.specs.Refusals.{SomeTwo}
+use Rattle.qasm_names.specs.Refusals.{SomeTwo}
 use Rattle.qasm_scope.proofs.TestLemmas.{below_or_here}
 
 -- none of the first items is so with a later one

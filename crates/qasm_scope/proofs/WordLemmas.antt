@@ -9,10 +9,10 @@ use Rattle.std.proofs.lemmas.List.Elements.{Contains-append_right, Contains-appe
 use Rattle.std.proofs.Math.Seq.{take-append-add}
 use Rattle.std.proofs.lemmas.Option.{slice_get_within, slice_get_read, get_or_from_slice_get, same_Some}
 use Rattle.qasm_parse.specs.declared.stmt.Named.{Named}
-use Rattle.qasm_scope.specs.Environment.{words_of}
+use Rattle.qasm_names.specs.Environment.{words_of}
 use Rattle.qasm_scope.specs.Least.{IsLeastOffset, earlier}
 use Rattle.qasm_scope.specs.Judged.{ComesAgain}
-use Rattle.qasm_scope.specs.Refusals.{ComesTwice}
+use Rattle.qasm_names.specs.Refusals.{ComesTwice}
 use Rattle.qasm_scope.proofs.TestLemmas.{not_tested, below_or_here}
 use Rattle.qasm_scope.proofs.LeastLemmas.{alike, either_least, one_least}
 

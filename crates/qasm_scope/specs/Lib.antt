@@ -1,15 +1,3 @@
-pub mod Tables
-pub mod Names
-pub mod Environment
-pub mod Header
-pub mod Applications
-pub mod Refusals
-pub mod Accepted
 pub mod Least
 pub mod Judged
-pub mod Reads
-pub mod Registers
-pub mod Entering
-pub mod Fixed
-pub mod Scopes
-pub mod Bound
+pub mod HeaderReading

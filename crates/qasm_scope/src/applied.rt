@@ -2,13 +2,12 @@
 
 ghost use Rattle.std.specs.Prelude.{◌≡◌, ◌↔◌, IsTrue};
 ghost use Rattle.std.specs.List.{Any};
-ghost use Rattle.qasm_scope.specs.Applications.{applications};
+ghost use Rattle.qasm_names.specs.Applications.{applications};
 ghost use Rattle.qasm_scope.specs.Judged.{TouchesReadBy};
-ghost use Rattle.qasm_scope.specs.Refusals.{RepeatsQubit, TouchesRead};
+ghost use Rattle.qasm_names.specs.Refusals.{RepeatsQubit, TouchesRead};
 
-use crate::known::Known;
-use crate::names::Names;
 use crate::pairs::{PairFault, has_faulty_pair};
+use qasm_names::{Known, Names};
 use qasm_parse::Arg;
 
 /// How often a call on these arguments is applied.

@@ -4,12 +4,12 @@ ghost use Rattle.std.specs.Prelude.{◌≡◌, ◌↔◌, IsTrue};
 ghost use Rattle.qasm_scope.specs.Judged.{HasArgFault, HasArgFaultAt, size_of};
 ghost use Rattle.qasm_scope.specs.Least.{IsLeastOffset};
 
-use crate::known::Known;
 use crate::least::earlier;
+use qasm_names::Known;
 use qasm_parse::Arg;
 
 /// A kind of registers.
-#[derive(Clone, Copy, Debug, PartialEq, Eq)]
+#[derive(Clone, Copy)]
 pub(crate) enum Register {
     /// Of qubits.
     Qubits,
@@ -18,7 +18,7 @@ pub(crate) enum Register {
 }
 
 /// What is wrong with an argument.
-#[derive(Clone, Copy, Debug, PartialEq, Eq)]
+#[derive(Clone, Copy)]
 pub(crate) enum ArgFault {
     /// It names no register of its kind.
     NotDeclared,

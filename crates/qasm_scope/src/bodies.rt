@@ -2,10 +2,10 @@
 
 ghost use Rattle.std.specs.Prelude.{◌↔◌, IsTrue, ◌++◌};
 ghost use Rattle.std.specs.List.{Any, Contains};
-ghost use Rattle.qasm_scope.specs.Environment.{words_of};
+ghost use Rattle.qasm_names.specs.Environment.{words_of};
 ghost use Rattle.qasm_scope.specs.Judged.{ComesAgain, IsForeignAt};
 ghost use Rattle.qasm_scope.specs.Least.{IsLeastOffset};
-ghost use Rattle.qasm_scope.specs.Refusals.{
+ghost use Rattle.qasm_names.specs.Refusals.{
   ComesTwice,
   UsesOther,
   UsesOtherIn,

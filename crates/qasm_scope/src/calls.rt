@@ -3,16 +3,15 @@
 ghost use Rattle.std.specs.Prelude.{◌↔◌, IsTrue};
 ghost use Rattle.qasm_scope.specs.Judged.{HasCallFault, HasCallFaultAt};
 ghost use Rattle.qasm_scope.specs.Least.{IsLeastOffset};
-ghost use Rattle.qasm_scope.specs.Refusals.{HasOtherArity, HasOtherParams, RepeatsWord};
+ghost use Rattle.qasm_names.specs.Refusals.{HasOtherArity, HasOtherParams, RepeatsWord};
 
-use crate::known::Known;
 use crate::least::earlier;
-use crate::meaning::Callee;
 use crate::pairs::{PairFault, has_faulty_pair};
+use qasm_names::{Callee, Known};
 use qasm_parse::BodyOp;
 
 /// What is wrong with a call.
-#[derive(Clone, Copy, Debug, PartialEq, Eq)]
+#[derive(Clone, Copy)]
 pub(crate) enum CallFault {
     /// It names no gate.
     Unknown,

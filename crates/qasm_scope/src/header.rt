@@ -1,19 +1,22 @@
 //! The header that an include of `qelib1.inc` stands for.
 
-ghost use Rattle.std.specs.Prelude.{◌≡◌, ◌<◌, [], IsTrue, ◌↔◌, length, IfOk, OnOk};
+ghost use Rattle.std.specs.Prelude.{◌≡◌, ◌<◌, [], IsTrue, ◌↔◌, None, codes, length, IfOk, OnOk};
 ghost use Rattle.qasm_lex.specs.Cuts.{AreTokensOf};
 ghost use Rattle.qasm_parse.specs.Statements.{IsStatement};
 ghost use Rattle.qasm_parse.specs.Symbols.{lexemes_of};
-ghost use Rattle.qasm_scope.specs.Accepted.{behind};
-ghost use Rattle.qasm_scope.specs.Header.{IsHeader, header_text};
-ghost use Rattle.qasm_scope.specs.Scopes.{AreAdmissibleInHeader, IsAdmissibleInHeader, IsVersionOrGate, IsReadHeader};
-ghost use Rattle.qasm_scope.specs.Environment.{after, nothing, opening};
+ghost use Rattle.qasm_names.specs.Accepted.{behind};
+ghost use Rattle.qasm_names.specs.Header.{IsHeader, header_text};
+ghost use Rattle.qasm_names.specs.Names.{own_meaning};
+ghost use Rattle.qasm_names.specs.Scopes.{AreAdmissibleInHeader, IsAdmissibleInHeader, IsVersionOrGate};
+ghost use Rattle.qasm_scope.specs.HeaderReading.{IsReadHeader};
+ghost use Rattle.qasm_names.specs.Environment.{enter_all, no_names};
 
-use crate::names::Names;
+use crate::judge::refusal_of;
 use qasm_lex::{Tokens, lex};
+use qasm_names::Names;
 use qasm_parse::{Stmt, statement};
 use std::alloc::Global;
-use zac_gates::{List, Memory};
+use zac_gates::Memory;
 
 /// The text of the header, behind the version that opens each source.
 const TEXT: &[u8] = b"OPENQASM 2.0;\n\
@@ -69,9 +72,9 @@ fn is_version_or_gate(stmt: &Stmt) -> bool
 /// answer is want of memory.
 fn enter_judged(names: &mut Names, stmt: Stmt) -> Result<(), Memory>
     ensures entered { OnOk result (names.new ≡ behind names.old stmt) }
-    ensures admissible { OnOk result (names.old.environment ≡ after nothing names.old.before → IsAdmissibleInHeader names.old.before stmt) }
+    ensures admissible { OnOk result (names.old.environment ≡ enter_all no_names names.old.before → IsAdmissibleInHeader names.old.before stmt) }
 {
-    if !is_version_or_gate(&stmt) || names.judge(&stmt).is_some() {
+    if !is_version_or_gate(&stmt) || refusal_of(names, &stmt).is_some() {
         return Err(Memory);
     }
     names.enter(stmt)
@@ -109,11 +112,12 @@ fn read_statements(alloc: Global, source: &[u8], tokens: &Tokens) -> Result<Name
     Ok(names)
 }
 
-/// The header's statements, and the context in which a file begins.
-pub(crate) fn read_header(alloc: Global) -> Result<(List<Stmt>, Names), Memory>
-    ensures is_header { IfOk result (λ r. IsHeader r.0) }
-    ensures admissible { IfOk result (λ r. AreAdmissibleInHeader [] r.0) }
-    ensures opening { IfOk result (λ r. r.1 ≡ record { environment = opening r.0; before = [] }) }
+/// The header's statements, with what names stand for behind them. `cz` isn't among the names.
+pub(crate) fn read_header(alloc: Global) -> Result<Names, Memory>
+    ensures is_header { IfOk result (λ r. IsHeader r.before) }
+    ensures admissible { IfOk result (λ r. AreAdmissibleInHeader [] r.before) }
+    ensures means { IfOk result (λ r. r.environment ≡ enter_all no_names r.before) }
+    ensures undeclared { IfOk result (λ r. own_meaning r.environment (codes "cz") ≡ None) }
 {
     let source = header_text();
     let Ok(tokens) = lex(alloc, source) else {
@@ -123,5 +127,5 @@ pub(crate) fn read_header(alloc: Global) -> Result<(List<Stmt>, Names), Memory>
     if names.known().has_own(b"cz".as_slice()) {
         return Err(Memory);
     }
-    names.opened()
+    Ok(names)
 }

@@ -3,7 +3,7 @@
 ghost use Rattle.std.specs.Prelude.{◌⊎◌, ◌↔◌, IsTrue};
 ghost use Rattle.qasm_scope.specs.Judged.{HasArgFaultAt, HasCallFaultAt};
 ghost use Rattle.qasm_scope.specs.Least.{IsLeastOffset};
-ghost use Rattle.qasm_scope.specs.Refusals.{
+ghost use Rattle.qasm_names.specs.Refusals.{
   HasName,
   HasRepeated,
   HasUnevenSizes,
@@ -23,11 +23,10 @@ use crate::applied::{repeats_qubit, touches_read};
 use crate::arguments::{ArgFault, Register, least_arg};
 use crate::bodies::{least_other_in, least_twice, least_undeclared};
 use crate::calls::{CallFault, least_call};
-use crate::known::Known;
 use crate::least::earlier;
-use crate::names::Names;
 use crate::pairs::{PairFault, has_faulty_pair};
 use crate::parts::{bit_args, calls_in, qubit_args};
+use qasm_names::{Known, Names};
 use qasm_parse::{Arg, Stmt};
 use std::slice;
 

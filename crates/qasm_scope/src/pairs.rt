@@ -3,13 +3,13 @@
 ghost use Rattle.std.specs.Prelude.{◌↔◌, IsTrue};
 ghost use Rattle.std.specs.List.{Any};
 ghost use Rattle.qasm_scope.specs.Judged.{HasPairFault, IndicesMeet, MeetWithin};
-ghost use Rattle.qasm_scope.specs.Refusals.{DifferInSize, SomeTwo};
+ghost use Rattle.qasm_names.specs.Refusals.{DifferInSize, SomeTwo};
 
-use crate::known::Known;
+use qasm_names::Known;
 use qasm_parse::Arg;
 
 /// What is wrong with two arguments of a call.
-#[derive(Clone, Copy, Debug, PartialEq, Eq)]
+#[derive(Clone, Copy)]
 pub(crate) enum PairFault {
     /// They are whole registers of different size.
     Sizes,

@@ -1,7 +1,7 @@
 //! The parts of a statement that are judged.
 
 ghost use Rattle.std.specs.Prelude.{◌≡◌};
-ghost use Rattle.qasm_scope.specs.Refusals.{bit_args, calls_in, qubit_args};
+ghost use Rattle.qasm_names.specs.Refusals.{bit_args, calls_in, qubit_args};
 
 use qasm_parse::{Arg, BodyOp, Stmt};
 use std::slice;

@@ -1,59 +1,46 @@
-//! The names of a program, statement by statement.
+//! The judgement of a program, statement by statement.
 
-use crate::binding::bound;
-use crate::fault::ScopeFault;
-use crate::gate::{GateDef, Target};
 use crate::header::read_header;
-use crate::known::Known;
-use crate::names::Names;
+use crate::judge::refusal_of;
+use qasm_names::{GateDef, ScopeFault, SourceProgram, Target};
 use qasm_parse::Stmt;
 use std::alloc::Global;
 use std::marker::Model;
-use zac_gates::{List, Memory};
+use zac_gates::Memory;
 
 /// The statements of a program that were admitted so far, with what their names stand for. Contracts see the header's
 /// statements and those that were admitted.
 #[derive(Drop)]
 pub struct Scope {
-    header: List<Stmt>,
-    names: Names,
-    targets: Vec<Target>,
+    program: SourceProgram,
 }
 
 impl Model for Scope {
-    ghost use Rattle.qasm_scope.specs.Accepted.{Program};
+    ghost use Rattle.qasm_names.specs.Accepted.{Program};
 
     ghost Value = { Program };
 
-    ghost use Rattle.qasm_scope.specs.Scopes.{IsScope};
-
-    ghost view = { λ s. record { header = s.header; statements = s.names.before } };
-
-    ghost invariant = { λ s. IsScope s.header s.names s.targets.items };
+    ghost view = { λ s. s.program };
 }
 
 impl Scope {
     ghost use Rattle.std.specs.Prelude.{◌≡◌, ℕ, [], ◌∷◌, ◌++◌, Some, take, slice_get, IfOk, OnOk, OnErr, MatchResult};
     ghost use Rattle.qasm_parse.specs.declared.stmt.BodyOp.{BodyOp};
     ghost use Rattle.qasm_parse.specs.declared.stmt.Stmt.TheVariants as stmt;
-    ghost use Rattle.qasm_scope.specs.Accepted.{AreAdmissible, IsAdmissible};
-    ghost use Rattle.qasm_scope.specs.Bound.{IsWellBound};
-    ghost use Rattle.qasm_scope.specs.Environment.{environment};
-    ghost use Rattle.qasm_scope.specs.Header.{IsHeader};
-    ghost use Rattle.qasm_scope.specs.Names.{callee, target_of};
-    ghost use Rattle.qasm_scope.specs.Refusals.{IsFirstRefusal};
-    ghost use Rattle.qasm_scope.specs.Scopes.{AreAdmissibleInHeader};
+    ghost use Rattle.qasm_names.specs.Accepted.{AreAdmissible, IsAdmissible};
+    ghost use Rattle.qasm_names.specs.Bound.{IsWellBound};
+    ghost use Rattle.qasm_names.specs.Environment.{environment};
+    ghost use Rattle.qasm_names.specs.Header.{IsHeader};
+    ghost use Rattle.qasm_names.specs.Names.{callee, target_of};
+    ghost use Rattle.qasm_names.specs.Refusals.{IsFirstRefusal};
+    ghost use Rattle.qasm_names.specs.Scopes.{AreAdmissibleInHeader};
 
     /// No statements, behind the header.
     pub fn new(alloc: Global) -> Result<Scope, Memory>
         ensures { IfOk result (λ scope. scope.statements ≡ []) }
     {
-        let (header, names) = read_header(alloc)?;
-        Ok(Scope {
-            header,
-            names,
-            targets: Vec::new(alloc),
-        })
+        let program = SourceProgram::behind(read_header(alloc)?)?;
+        Ok(Scope { program })
     }
 
     /// Judges the statement that stands behind those that were admitted. Of several refusals the first is told: by kind,
@@ -62,7 +49,7 @@ impl Scope {
         ensures { MatchResult result (λ _. IsAdmissible self.now.header self.now.statements stmt.now)
             (λ f. IsFirstRefusal (environment self.now.header self.now.statements) self.now.statements stmt.now f.kind f.at) }
     {
-        match self.names.judge(stmt) {
+        match refusal_of(self.program.names(), stmt) {
             None => Ok(()),
             Some(fault) => Err(fault),
         }
@@ -75,11 +62,14 @@ impl Scope {
         ensures ok { OnOk result (self.new ≡ record { header = self.old.header; statements = self.old.statements ++ stmt ∷ [] }) }
         ensures err { OnErr result (self.new ≡ self.old) }
     {
-        self.targets.reserve(1)?;
-        let target = target_in(self.names.known(), &stmt);
-        self.names.enter(stmt)?;
-        self.targets.push(target).unwrap();
-        Ok(())
+        self.program.admit(stmt)
+    }
+
+    /// The program of the statements that were admitted.
+    pub fn program(&self) -> &SourceProgram
+        ensures { result.now ≡ self.now }
+    {
+        &self.program
     }
 
     /// The statements that were admitted, in order. Behind the header none of them is refused.
@@ -89,7 +79,7 @@ impl Scope {
         ensures header_admissible { AreAdmissibleInHeader [] self.now.header }
         ensures admissible { AreAdmissible self.now.header [] self.now.statements }
     {
-        self.names.statements()
+        self.program.statements()
     }
 
     /// The gates with a body, those of the header first. A call's target names them by their places. Each call of a body
@@ -98,7 +88,7 @@ impl Scope {
         ensures list { result.now ≡ (environment self.now.header self.now.statements).gates }
         ensures bound { (place : ℕ) → IsWellBound result.now place }
     {
-        self.names.known().gates()
+        self.program.gates()
     }
 
     /// What the call at a place of the statements is bound to. A call stands there.
@@ -107,19 +97,6 @@ impl Scope {
         ensures { (call : BodyOp) → slice_get self.now.statements place ≡ Some (stmt.Call call)
             → Some result ≡ target_of (callee (environment self.now.header (take place self.now.statements)) call.name) }
     {
-        self.targets[place as usize]
-    }
-}
-
-ghost use Rattle.std.specs.Prelude.{◌≡◌};
-ghost use Rattle.qasm_scope.specs.Scopes.{bound_target};
-
-/// What a statement's call is bound to; a barrier where it is no call.
-fn target_in(known: &Known, stmt: &Stmt) -> Target
-    ensures { result ≡ bound_target known.now stmt.now }
-{
-    match stmt {
-        Stmt::Call { call } => bound(known.callee(call.name.as_slice())),
-        _ => Target::Barrier,
+        self.program.target(place)
     }
 }

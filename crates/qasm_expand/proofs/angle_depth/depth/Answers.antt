@@ -3,7 +3,7 @@ use Rattle.std.proofs.lemmas.List.{drop_more}
 use Rattle.std.specs.Prelude.{reverse}
 use Rattle.qasm_expand.specs.AngleReadings.{depths}
 use Rattle.qasm_expand.specs.StackReadings.{read_nodes, read_node, first_or}
-use Rattle.qasm_expand.proofs.ReadingLemmas.{read_done, depth_read}
+use Rattle.qasm_expand.proofs.AngleReadingsLemmas.{read_done, depth_read}
 use Rattle.qasm_expand.proofs.DepthLemmas.{AtMost, read_at_most}
 use Rattle.qasm_expand.proofs.angle_depth.depth.Goals as goal
 

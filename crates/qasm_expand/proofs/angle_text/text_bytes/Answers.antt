@@ -2,7 +2,7 @@ use Rattle.std.proofs.Common.{◌≡◌, [], sym, ◌∙◌, ap}
 use Rattle.std.specs.Prelude.{reverse}
 use Rattle.qasm_expand.specs.AngleReadings.{texts}
 use Rattle.qasm_expand.specs.StackReadings.{read_nodes, first_or}
-use Rattle.qasm_expand.proofs.ReadingLemmas.{read_done, text_read}
+use Rattle.qasm_expand.proofs.AngleReadingsLemmas.{read_done, text_read}
 use Rattle.qasm_expand.proofs.angle_text.text_bytes.Goals as goal
 
 pub returns-in-None : goal.returns-in-None

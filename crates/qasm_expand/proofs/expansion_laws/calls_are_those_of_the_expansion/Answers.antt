@@ -1,4 +1,4 @@
-use Rattle.qasm_expand.proofs.CallTreeLemmas.{left_of_visits, program_left, visits_counted, visits_expand}
+use Rattle.qasm_expand.proofs.CallsLemmas.{left_of_visits, program_left, visits_counted, visits_expand}
 use Rattle.qasm_expand.proofs.expansion_laws.calls_are_those_of_the_expansion.Goals as goal
 
 pub returns-clause-left : goal.returns-clause-left

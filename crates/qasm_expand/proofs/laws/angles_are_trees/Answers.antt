@@ -1,4 +1,4 @@
-use Rattle.qasm_expand.proofs.TreeLemmas.{tree_of_postfix, postfix_tree_of, postfix_is_postfix, substitute_postfix}
+use Rattle.qasm_expand.proofs.TreesLemmas.{tree_of_postfix, postfix_tree_of, postfix_is_postfix, substitute_postfix}
 use Rattle.qasm_expand.proofs.laws.angles_are_trees.Goals as goal
 
 pub returns-clause-reads : goal.returns-clause-reads

@@ -1,6 +1,6 @@
 use Rattle.std.proofs.Common.{sym, ◌∙◌}
 use Rattle.qasm_expand.specs.Limits.{statement_literals}
-use Rattle.qasm_expand.proofs.LiteralLemmas.{passed_found, passed_more}
+use Rattle.qasm_expand.proofs.LiteralsLemmas.{passed_found, passed_more}
 use Rattle.qasm_expand.proofs.literals.passed_by_literals.Goals as goal
 
 pub returns-then-is_some : goal.returns-then-is_some

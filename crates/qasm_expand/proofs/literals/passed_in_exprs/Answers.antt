@@ -2,7 +2,7 @@ use Rattle.std.proofs.Common.{ap, sym, ◌∙◌}
 use Rattle.qasm_parse.specs.declared.stmt.Expr.{Expr}
 use Rattle.std.specs.List.{flat_map}
 use Rattle.qasm_expand.specs.Limits.{literal_of, passed_by_literals}
-use Rattle.qasm_expand.proofs.LiteralLemmas.{passed_found, passed_more}
+use Rattle.qasm_expand.proofs.LiteralsLemmas.{passed_found, passed_more}
 use Rattle.qasm_expand.proofs.literals.passed_in_exprs.Goals as goal
 
 pub returns-then-is_some : goal.returns-then-is_some

@@ -2,12 +2,12 @@ use Rattle.std.proofs.Common.{◌≡◌, ℕ, List, length, ap, subst, sym, ◌�
 use Rattle.std.proofs.lemmas.Result.{err_from_is_err_and}
 use Rattle.zac_gates.specs.Ops.{NativeCircuit}
 use Rattle.zac_gates.specs.declared.circuit.Op.{Op}
-use Rattle.qasm_scope.specs.Environment.{environment}
+use Rattle.qasm_names.specs.Environment.{environment}
 use Rattle.qasm_expand.specs.Expansion.{IsExpansion, top_calls}
 use Rattle.qasm_expand.specs.Limits.{passed_before_calls}
 use Rattle.qasm_expand.specs.Native.{pairs_in}
-use Rattle.qasm_scope.specs.Bound.{IsWellBound}
-use Rattle.qasm_scope.specs.declared.gate.GateDef.{GateDef}
+use Rattle.qasm_names.specs.Bound.{IsWellBound}
+use Rattle.qasm_names.specs.declared.gate.GateDef.{GateDef}
 use Rattle.qasm_expand.proofs.NativeLemmas.{limit_tells, circuit_is, walked_expansion, expansion_is_valid, never_refused}
 use Rattle.qasm_expand.proofs.ProgramLemmas.{walk_few}
 use Rattle.qasm_expand.proofs.ReadyLemmas.{header_bare}
@@ -16,24 +16,24 @@ use Rattle.qasm_expand.proofs.native.native.Goals as goal
 pub returns-in_err-refuse-clause-err : goal.returns-in_err-refuse-clause-err
 returns-in_err-refuse-clause-err c =
     let r = err_from_is_err_and c.from_residual.result c.from_residual.ensures.1 in
-    rw (r.1, r.2) (limit_tells c.args.scope.now c.passed_before_calls.result c.in_err-refuse.field-0.0 (c.passed_before_calls.ensures ∙ ap passed_before_calls c.statements-statements.ensures.list) c.in_err-refuse.ensures.err)
+    rw (r.1, r.2) (limit_tells c.args.program.now c.passed_before_calls.result c.in_err-refuse.field-0.0 (c.passed_before_calls.ensures ∙ ap passed_before_calls c.statements-statements.ensures.list) c.in_err-refuse.ensures.err)
 
 pub new-circuit-requires : goal.new-circuit-requires
 new-circuit-requires c =
-    let p = c.args.scope.now in
+    let p = c.args.program.now in
     let w = c.in_ok-walk.ensures.ok in
     let few = walk_few (environment p.header p.statements).gates w.start c.in_ok-walk.walk (top_calls p) w.calls w.ops w.walks in
     omega (arith, few.0, ap (λ (ops : List Op). length ops) c.into_ops.ensures)
 
 pub returns-in-Ok-clause-expansion : goal.returns-in-Ok-clause-expansion
 returns-in-Ok-clause-expansion c =
-    let p = c.args.scope.now in
+    let p = c.args.program.now in
     let is = circuit_is p.statements c.statements-statements.result.now c.in_ok-registers.registers c.qubit_count.result c.bit_count.result c.into_ops.result c.in_ok-walk.walk.ops.items c.qubit_count.ensures c.bit_count.ensures c.in_ok-registers.ensures c.statements-statements.ensures.list c.into_ops.ensures in
     subst (IsExpansion p) (is ∙ sym c.in-Ok.ensures.ok.0) (walked_expansion p c.in_ok-walk.walk c.in_ok-walk.ensures.ok)
 
 pub returns-in-Ok-clause-few : goal.returns-in-Ok-clause-few
 returns-in-Ok-clause-few c =
-    let p = c.args.scope.now in
+    let p = c.args.program.now in
     let w = c.in_ok-walk.ensures.ok in
     let few = walk_few (environment p.header p.statements).gates w.start c.in_ok-walk.walk (top_calls p) w.calls w.ops w.walks in
     let ops : c.in-Ok.circuit.ops ≡ c.in_ok-walk.walk.ops.items = ap (λ (x : NativeCircuit). x.ops) c.in-Ok.ensures.ok.0 ∙ c.into_ops.ensures in
@@ -41,7 +41,7 @@ returns-in-Ok-clause-few c =
 
 pub unreachable-requires : goal.unreachable-requires
 unreachable-requires c =
-    let p = c.args.scope.now in
+    let p = c.args.program.now in
     let gates = (environment p.header p.statements).gates in
     let bound : (place : ℕ) → IsWellBound gates place = λ place. subst (λ (gs : List GateDef). IsWellBound gs place) c.gates.ensures.list (c.gates.ensures.bound place) in
     let is = circuit_is p.statements c.statements-statements.result.now c.in_ok-registers.registers c.qubit_count.result c.bit_count.result c.into_ops.result c.in_ok-walk.walk.ops.items c.qubit_count.ensures c.bit_count.ensures c.in_ok-registers.ensures c.statements-statements.ensures.list c.into_ops.ensures in

@@ -3,10 +3,10 @@ use Rattle.std.specs.List.{AllByRecursion, slice_get}
 use Rattle.qasm_parse.specs.declared.stmt.Arg.{Arg}
 use Rattle.qasm_parse.specs.declared.stmt.Stmt.{Stmt}
 use Rattle.qasm_parse.specs.declared.stmt.Stmt.TheVariants as stmt
-use Rattle.qasm_scope.specs.declared.gate.GateDef.{GateDef}
-use Rattle.qasm_scope.specs.declared.gate.Target.{Target}
-use Rattle.qasm_scope.specs.Applications.{applications, applied}
-use Rattle.qasm_scope.specs.Environment.{environment}
+use Rattle.qasm_names.specs.declared.gate.GateDef.{GateDef}
+use Rattle.qasm_names.specs.declared.gate.Target.{Target}
+use Rattle.qasm_names.specs.Applications.{applications, applied}
+use Rattle.qasm_names.specs.Environment.{environment}
 use Rattle.qasm_expand.specs.Calls.{Visit}
 use Rattle.qasm_expand.specs.Items.Item.{Barrier}
 use Rattle.qasm_expand.specs.RegisterKinds.{IsPlaceIn}
@@ -15,62 +15,22 @@ use Rattle.qasm_expand.specs.Top.{HaveShortNumbers, visits_of, readings_of, visi
 use Rattle.qasm_expand.specs.Walks.{Walks, Passes}
 use Rattle.qasm_expand.specs.Fit.{Suits}
 use Rattle.qasm_expand.specs.declared.kind.RegisterKind.TheVariants as register
-use Rattle.qasm_expand.proofs.BoundLemmas.{ready_call, ready_reading}
+use Rattle.qasm_expand.proofs.ReadyCalls.{ready_call, ready_reading}
 use Rattle.qasm_expand.proofs.CallLemmas.{on_ok_map}
 use Rattle.qasm_expand.proofs.PlaceLemmas.{stmt_at, target_read, call_visits, reading_visits, other_visits}
 use Rattle.qasm_expand.proofs.ReadyLemmas.{header_bare}
 use Rattle.qasm_expand.proofs.TopCalls.{memory_passes}
 use Rattle.qasm_expand.proofs.TopLemmas.{if_err_map}
-use Rattle.qasm_expand.proofs.WalkLemmas.{walks_none, walks_plain, passes_plain}
+use Rattle.qasm_expand.proofs.WalksLemmas.{walks_none, walks_plain, passes_plain}
 use Rattle.qasm_expand.proofs.statement.visit.Goals as goal
 
-pub returns-in_default-try_from-clause-err : goal.returns-in_default-try_from-clause-err
-returns-in_default-try_from-clause-err c =
-    let p = c.args.scope.now in
-    memory_passes (environment p.header p.statements).gates c.args.walk.now (visits_at p c.args.place) _ refl
-
-pub target-requires : goal.target-requires
-target-requires c =
-    let p = c.args.scope.now in
-    let i = c.args.place in
-    let call = c.in-Call.call in
-    let at = stmt_at c.statements-statements.result.now p.statements i c.index-statements-place.result (stmt.Call call) c.statements-statements.ensures.list c.requires.place c.index-statements-place.is c.in-Call.is in
-    (call, ap (slice_get p.statements) c.in-Ok.ensures.1 ∙ at)
-
-pub apply_all-requires-clause-short : goal.apply_all-requires-clause-short
-apply_all-requires-clause-short c = subst HaveShortNumbers (sym c.gates-gates.ensures.list) c.requires.short
-
-pub apply_all-requires-clause-closed : goal.apply_all-requires-clause-closed
-apply_all-requires-clause-closed c =
-    let p = c.args.scope.now in
-    let i = c.args.place in
-    let call = c.in-Call.call in
-    let at = stmt_at c.statements-statements.result.now p.statements i c.index-statements-place.result (stmt.Call call) c.statements-statements.ensures.list c.requires.place c.index-statements-place.is c.in-Call.is in
-    let ready = ready_call p.header p.statements i call (header_bare p.header c.statements-statements.ensures.header_admissible) c.statements-statements.ensures.admissible c.requires.before at in
-    ready.closed
-
-pub apply_all-requires-clause-suits : goal.apply_all-requires-clause-suits
-apply_all-requires-clause-suits c =
-    let p = c.args.scope.now in
-    let i = c.args.place in
-    let call = c.in-Call.call in
-    let at = stmt_at c.statements-statements.result.now p.statements i c.index-statements-place.result (stmt.Call call) c.statements-statements.ensures.list c.requires.place c.index-statements-place.is c.in-Call.is in
-    let ready = ready_call p.header p.statements i call (header_bare p.header c.statements-statements.ensures.header_admissible) c.statements-statements.ensures.admissible c.requires.before at in
-    let target = target_read p i c.in-Ok.at call c.target.result c.in-Ok.ensures.1 (c.target.ensures call (ap (slice_get p.statements) c.in-Ok.ensures.1 ∙ at)) in
-    subst (λ (gates : List GateDef). Suits gates c.target.result (length call.exprs) (length call.args)) (sym c.gates-gates.ensures.list) (subst (λ (t : Target). Suits (environment p.header p.statements).gates t (length call.exprs) (length call.args)) (sym target) ready.suits)
-
-pub apply_all-requires-clause-places : goal.apply_all-requires-clause-places
-apply_all-requires-clause-places c =
-    let p = c.args.scope.now in
-    let i = c.args.place in
-    let call = c.in-Call.call in
-    let at = stmt_at c.statements-statements.result.now p.statements i c.index-statements-place.result (stmt.Call call) c.statements-statements.ensures.list c.requires.place c.index-statements-place.is c.in-Call.is in
-    let ready = ready_call p.header p.statements i call (header_bare p.header c.statements-statements.ensures.header_admissible) c.statements-statements.ensures.admissible c.requires.before at in
-    subst (λ (all : List Stmt). (k : ℕ) → k < applications (sized all) call.args → AllByRecursion (λ (arg : Arg). IsPlaceIn register.Qubit all (applied arg k)) call.args) (sym c.requires.registers) ready.places
+pub visit_call-requires-clause-at : goal.visit_call-requires-clause-at
+visit_call-requires-clause-at c =
+    stmt_at c.statements-statements.result.now c.args.program.now.statements c.args.place c.index-statements-place.result (stmt.Call c.in-Call.call) c.statements-statements.ensures.list c.requires.place c.index-statements-place.is c.in-Call.is
 
 pub measure_all-requires-clause-qubits : goal.measure_all-requires-clause-qubits
 measure_all-requires-clause-qubits c =
-    let p = c.args.scope.now in
+    let p = c.args.program.now in
     let i = c.args.place in
     let from = c.in-Measure.from in
     let into = c.in-Measure.into in
@@ -80,7 +40,7 @@ measure_all-requires-clause-qubits c =
 
 pub measure_all-requires-clause-bits : goal.measure_all-requires-clause-bits
 measure_all-requires-clause-bits c =
-    let p = c.args.scope.now in
+    let p = c.args.program.now in
     let i = c.args.place in
     let from = c.in-Measure.from in
     let into = c.in-Measure.into in
@@ -88,31 +48,9 @@ measure_all-requires-clause-bits c =
     let ready = ready_reading p.header p.statements i from into c.in-Measure.at (header_bare p.header c.statements-statements.ensures.header_admissible) c.statements-statements.ensures.admissible at in
     subst (λ (all : List Stmt). (k : ℕ) → k < applications (sized all) (from ∷ []) → IsPlaceIn register.Bit all (applied into k)) (sym c.requires.registers) ready.bits
 
-pub returns-in-Ok-clause-ok : goal.returns-in-Ok-clause-ok
-returns-in-Ok-clause-ok c =
-    let p = c.args.scope.now in
-    let i = c.args.place in
-    let call = c.in-Call.call in
-    let at = stmt_at c.statements-statements.result.now p.statements i c.index-statements-place.result (stmt.Call call) c.statements-statements.ensures.list c.requires.place c.index-statements-place.is c.in-Call.is in
-    let ready = ready_call p.header p.statements i call (header_bare p.header c.statements-statements.ensures.header_admissible) c.statements-statements.ensures.admissible c.requires.before at in
-    let target = target_read p i c.in-Ok.at call c.target.result c.in-Ok.ensures.1 (c.target.ensures call (ap (slice_get p.statements) c.in-Ok.ensures.1 ∙ at)) in
-    let visits : visits_of c.args.registers.now c.target.result call ≡ visits_at p i = call_visits p i call c.args.registers.now c.target.result c.requires.registers target ready.visits at in
-    on_ok_map c.apply_all.result (λ w. subst (λ (gates : List GateDef). Walks gates c.args.walk.now c.apply_all.new.walk (visits_at p i)) c.gates-gates.ensures.list (subst (Walks c.gates-gates.result.now c.args.walk.now c.apply_all.new.walk) visits w)) c.apply_all.ensures.ok
-
-pub returns-in-Ok-clause-err : goal.returns-in-Ok-clause-err
-returns-in-Ok-clause-err c =
-    let p = c.args.scope.now in
-    let i = c.args.place in
-    let call = c.in-Call.call in
-    let at = stmt_at c.statements-statements.result.now p.statements i c.index-statements-place.result (stmt.Call call) c.statements-statements.ensures.list c.requires.place c.index-statements-place.is c.in-Call.is in
-    let ready = ready_call p.header p.statements i call (header_bare p.header c.statements-statements.ensures.header_admissible) c.statements-statements.ensures.admissible c.requires.before at in
-    let target = target_read p i c.in-Ok.at call c.target.result c.in-Ok.ensures.1 (c.target.ensures call (ap (slice_get p.statements) c.in-Ok.ensures.1 ∙ at)) in
-    let visits : visits_of c.args.registers.now c.target.result call ≡ visits_at p i = call_visits p i call c.args.registers.now c.target.result c.requires.registers target ready.visits at in
-    if_err_map c.apply_all.result (λ e w. subst (λ (gates : List GateDef). Passes gates c.args.walk.now (visits_at p i) e) c.gates-gates.ensures.list (subst (λ vs. Passes c.gates-gates.result.now c.args.walk.now vs e) visits w)) c.apply_all.ensures.err
-
 pub returns-in-Measure-clause-ok : goal.returns-in-Measure-clause-ok
 returns-in-Measure-clause-ok c =
-    let p = c.args.scope.now in
+    let p = c.args.program.now in
     let i = c.args.place in
     let from = c.in-Measure.from in
     let into = c.in-Measure.into in
@@ -124,7 +62,7 @@ returns-in-Measure-clause-ok c =
 
 pub returns-in-Measure-clause-err : goal.returns-in-Measure-clause-err
 returns-in-Measure-clause-err c =
-    let p = c.args.scope.now in
+    let p = c.args.program.now in
     let i = c.args.place in
     let from = c.in-Measure.from in
     let into = c.in-Measure.into in
@@ -136,7 +74,7 @@ returns-in-Measure-clause-err c =
 
 pub returns-in-Barrier-clause-ok : goal.returns-in-Barrier-clause-ok
 returns-in-Barrier-clause-ok c =
-    let p = c.args.scope.now in
+    let p = c.args.program.now in
     let i = c.args.place in
     let at = stmt_at c.statements-statements.result.now p.statements i c.index-statements-place.result (stmt.Barrier c.in-Barrier.args c.in-Barrier.at) c.statements-statements.ensures.list c.requires.place c.index-statements-place.is c.in-Barrier.is in
     let v : Visit = record { depth = 1; item = Barrier } in
@@ -146,7 +84,7 @@ returns-in-Barrier-clause-ok c =
 
 pub returns-in-Barrier-clause-err : goal.returns-in-Barrier-clause-err
 returns-in-Barrier-clause-err c =
-    let p = c.args.scope.now in
+    let p = c.args.program.now in
     let i = c.args.place in
     let at = stmt_at c.statements-statements.result.now p.statements i c.index-statements-place.result (stmt.Barrier c.in-Barrier.args c.in-Barrier.at) c.statements-statements.ensures.list c.requires.place c.index-statements-place.is c.in-Barrier.is in
     let v : Visit = record { depth = 1; item = Barrier } in
@@ -156,7 +94,7 @@ returns-in-Barrier-clause-err c =
 
 pub returns-in_default : goal.returns-in_default
 returns-in_default c =
-    let p = c.args.scope.now in
+    let p = c.args.program.now in
     let i = c.args.place in
     let at = stmt_at c.statements-statements.result.now p.statements i c.index-statements-place.result c.index-statements-place.result c.statements-statements.ensures.list c.requires.place c.index-statements-place.is refl in
     let gates = (environment p.header p.statements).gates in

@@ -2,7 +2,7 @@ use Rattle.std.proofs.Common.{rules, ◌≡◌, ◌<◌, ◌∷◌, [], map, ap,
 use Rattle.std.specs.List.{AllByRecursion}
 use Rattle.std.proofs.lemmas.Result.{err_from_is_err_and}
 use Rattle.qasm_parse.specs.declared.stmt.Arg.{Arg}
-use Rattle.qasm_scope.specs.Applications.{applications, applied}
+use Rattle.qasm_names.specs.Applications.{applications, applied}
 use Rattle.qasm_expand.specs.Calls.{at_depth}
 use Rattle.qasm_expand.specs.Items.{Item, application, qubit_number}
 use Rattle.qasm_expand.specs.RegisterKinds.{IsPlaceIn}
@@ -11,7 +11,7 @@ use Rattle.qasm_expand.specs.Top.{visits_of}
 use Rattle.qasm_expand.specs.Walks.{Walks, Passes}
 use Rattle.qasm_expand.specs.declared.kind.RegisterKind.TheVariants as register
 use Rattle.qasm_expand.proofs.TopCalls.{walks_more, walks_fails, memory_passes, application_is}
-use Rattle.qasm_expand.proofs.WalkLemmas.{walks_none}
+use Rattle.qasm_expand.proofs.WalksLemmas.{walks_none}
 use Rattle.qasm_expand.proofs.top.apply_all.Goals as goal
 
 pub loop-k-init : goal.loop-k-init

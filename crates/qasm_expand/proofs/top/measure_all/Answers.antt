@@ -1,11 +1,11 @@
 use Rattle.std.proofs.Common.{◌≡◌, ◌<◌, ◌∷◌, [], subst, arith}
 use Rattle.std.proofs.lemmas.Result.{err_from_is_err_and}
-use Rattle.qasm_scope.specs.Applications.{applications}
+use Rattle.qasm_names.specs.Applications.{applications}
 use Rattle.qasm_expand.specs.Items.{measurement}
 use Rattle.qasm_expand.specs.Sized.{sized}
 use Rattle.qasm_expand.specs.Walks.{Walks}
 use Rattle.qasm_expand.proofs.TopCalls.{first_visits, walks_more, walks_fails, reading_is, measure_walks, measure_passes}
-use Rattle.qasm_expand.proofs.WalkLemmas.{walks_none}
+use Rattle.qasm_expand.proofs.WalksLemmas.{walks_none}
 use Rattle.qasm_expand.proofs.top.measure_all.Goals as goal
 
 pub loop-k-init : goal.loop-k-init

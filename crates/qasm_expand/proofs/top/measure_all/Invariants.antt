@@ -1,5 +1,5 @@
 use Rattle.std.proofs.Common.{List}
-use Rattle.qasm_scope.specs.declared.gate.GateDef.{GateDef}
+use Rattle.qasm_names.specs.declared.gate.GateDef.{GateDef}
 use Rattle.qasm_expand.specs.Items.{measurement}
 use Rattle.qasm_expand.specs.Walks.{Walks}
 use Rattle.qasm_expand.proofs.TopCalls.{first_visits}

@@ -1,6 +1,6 @@
 use Rattle.std.proofs.Common.{◌∙◌, ap}
-use Rattle.qasm_scope.specs.Names.{qubit_size}
-use Rattle.qasm_scope.proofs.ApplicationLemmas.{applications_more, applications_whole, applications_none}
+use Rattle.qasm_names.specs.Names.{qubit_size}
+use Rattle.qasm_scope.proofs.ApplicationsLemmas.{applications_more, applications_whole, applications_none}
 use Rattle.qasm_scope.proofs.applied.applications.Goals as goal
 
 pub loop-arg-preserved : goal.loop-arg-preserved

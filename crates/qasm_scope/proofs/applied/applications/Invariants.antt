@@ -1,5 +1,5 @@
 use Rattle.std.proofs.Common.{◌≡◌, drop}
-use Rattle.qasm_scope.specs.Applications.{applications}
+use Rattle.qasm_names.specs.Applications.{applications}
 use Rattle.qasm_scope.proofs.applied.applications.Given as goal
 
 abbrev pub invariant-loop-arg : goal.invariant-loop-arg

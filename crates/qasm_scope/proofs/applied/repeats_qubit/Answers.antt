@@ -1,4 +1,4 @@
-use Rattle.qasm_scope.proofs.ApplicationLemmas.{repeats_from}
+use Rattle.qasm_scope.proofs.ApplicationsLemmas.{repeats_from}
 use Rattle.qasm_scope.proofs.applied.repeats_qubit.Goals as goal
 
 pub returns : goal.returns

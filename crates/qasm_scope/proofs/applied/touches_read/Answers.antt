@@ -1,6 +1,6 @@
 use Rattle.std.proofs.Common.{◌∙◌, ap}
-use Rattle.qasm_scope.specs.Applications.{applications}
-use Rattle.qasm_scope.proofs.ApplicationLemmas.{touches_from}
+use Rattle.qasm_names.specs.Applications.{applications}
+use Rattle.qasm_scope.proofs.ApplicationsLemmas.{touches_from}
 use Rattle.qasm_scope.proofs.applied.touches_read.Goals as goal
 
 pub returns : goal.returns

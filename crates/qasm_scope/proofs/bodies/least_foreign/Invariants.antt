@@ -1,6 +1,6 @@
 use Rattle.std.proofs.Common.{◌≡◌}
 use Rattle.std.specs.List.{Contains}
-use Rattle.qasm_scope.specs.Environment.{words_of}
+use Rattle.qasm_names.specs.Environment.{words_of}
 use Rattle.qasm_scope.specs.Least.{IsLeastOffset}
 use Rattle.qasm_scope.proofs.LeastLemmas.{OfFirst}
 use Rattle.qasm_scope.proofs.bodies.least_foreign.Given as goal

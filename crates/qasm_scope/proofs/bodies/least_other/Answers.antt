@@ -1,8 +1,8 @@
 use Rattle.std.proofs.Common.{List, subst}
 use Rattle.std.specs.List.{Any}
 use Rattle.qasm_parse.specs.declared.stmt.Node.{Node}
-use Rattle.qasm_scope.specs.Environment.{words_of}
-use Rattle.qasm_scope.specs.Refusals.{UsesOther}
+use Rattle.qasm_names.specs.Environment.{words_of}
+use Rattle.qasm_names.specs.Refusals.{UsesOther}
 use Rattle.qasm_scope.specs.Least.{IsLeastOffset}
 use Rattle.qasm_scope.proofs.LeastLemmas.{first_none, first_all, found_more}
 use Rattle.qasm_scope.proofs.bodies.least_other.Goals as goal

@@ -1,5 +1,5 @@
-use Rattle.qasm_scope.specs.Environment.{words_of}
-use Rattle.qasm_scope.specs.Refusals.{UsesOther}
+use Rattle.qasm_names.specs.Environment.{words_of}
+use Rattle.qasm_names.specs.Refusals.{UsesOther}
 use Rattle.qasm_scope.specs.Least.{IsLeastOffset}
 use Rattle.qasm_scope.proofs.LeastLemmas.{OfFirst}
 use Rattle.qasm_scope.proofs.bodies.least_other.Given as goal

@@ -1,9 +1,9 @@
 use Rattle.std.proofs.Common.{List, subst}
 use Rattle.qasm_parse.specs.declared.stmt.Arg.{Arg}
 use Rattle.qasm_parse.specs.declared.stmt.Expr.{Expr}
-use Rattle.qasm_scope.specs.Environment.{words_of}
+use Rattle.qasm_names.specs.Environment.{words_of}
 use Rattle.qasm_scope.specs.Judged.{IsForeignAt}
-use Rattle.qasm_scope.specs.Refusals.{UsesOtherIn}
+use Rattle.qasm_names.specs.Refusals.{UsesOtherIn}
 use Rattle.qasm_scope.specs.Least.{IsLeastOffset}
 use Rattle.qasm_scope.proofs.LeastLemmas.{either_least}
 use Rattle.qasm_scope.proofs.bodies.undeclared_at.Goals as goal

@@ -1,9 +1,9 @@
 use Rattle.std.proofs.Common.{◌≤◌, length, sym, subst, arith}
 use Rattle.qasm_parse.specs.Statements.{IsStatement}
 use Rattle.qasm_parse.specs.Symbols.{lexemes_of}
-use Rattle.qasm_scope.specs.Accepted.{Context}
-use Rattle.qasm_scope.specs.Scopes.{IsReadHeader}
-use Rattle.qasm_scope.proofs.ScopeLemmas.{IsReadHeader-push, length-lexemes_of}
+use Rattle.qasm_names.specs.Accepted.{Context}
+use Rattle.qasm_scope.specs.HeaderReading.{IsReadHeader}
+use Rattle.qasm_scope.proofs.HeaderReadingLemmas.{IsReadHeader-push, length-lexemes_of}
 use Rattle.qasm_scope.proofs.header.read_statements.Goals as goal
 
 pub loop-place-preserved : goal.loop-place-preserved

@@ -1,6 +1,6 @@
 use Rattle.std.proofs.Common.{◌≤◌, ◌-◌, length}
 use Rattle.qasm_parse.specs.Symbols.{lexemes_of}
-use Rattle.qasm_scope.specs.Scopes.{IsReadHeader}
+use Rattle.qasm_scope.specs.HeaderReading.{IsReadHeader}
 use Rattle.qasm_scope.proofs.header.read_statements.Given as goal
 
 abbrev pub invariant-loop-place : goal.invariant-loop-place

@@ -1,4 +1,4 @@
-use Rattle.qasm_scope.proofs.KindLemmas.{name_gate, name_opaque, name_call}
+use Rattle.qasm_scope.proofs.JudgedLemmas.{name_gate, name_opaque, name_call}
 use Rattle.qasm_scope.proofs.kinds.name_at.Goals as goal
 
 pub returns-in-Gate : goal.returns-in-Gate

@@ -1,4 +1,4 @@
-use Rattle.qasm_scope.proofs.KindLemmas.{repeated_gate}
+use Rattle.qasm_scope.proofs.JudgedLemmas.{repeated_gate}
 use Rattle.qasm_scope.proofs.kinds.repeated_at.Goals as goal
 
 pub returns-in-Gate : goal.returns-in-Gate

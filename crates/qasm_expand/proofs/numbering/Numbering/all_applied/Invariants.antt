@@ -1,5 +1,5 @@
 use Rattle.std.proofs.Common.{◌≡◌, map, take}
-use Rattle.qasm_scope.specs.Applications.{applied}
+use Rattle.qasm_names.specs.Applications.{applied}
 use Rattle.qasm_expand.specs.RegisterKinds.{place_number}
 use Rattle.qasm_expand.proofs.numbering.Numbering.all_applied.Given as goal
 

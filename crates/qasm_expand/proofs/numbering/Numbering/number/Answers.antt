@@ -1,5 +1,5 @@
 use Rattle.std.proofs.Common.{arith}
-use Rattle.qasm_expand.proofs.NumberLemmas.{extent-number, no_extent}
+use Rattle.qasm_expand.proofs.NumberingLemmas.{extent-number, no_extent}
 use Rattle.qasm_expand.proofs.numbering.Numbering.number.Goals as goal
 
 pub overflow_cast-result : goal.overflow_cast-result

@@ -1,4 +1,4 @@
-use Rattle.qasm_expand.proofs.NumberLemmas.{extent-size, extent-none}
+use Rattle.qasm_expand.proofs.NumberingLemmas.{extent-size, extent-none}
 use Rattle.qasm_expand.proofs.numbering.Numbering.size.Goals as goal
 
 pub returns-in-Some : goal.returns-in-Some

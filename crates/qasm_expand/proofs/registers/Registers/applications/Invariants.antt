@@ -1,5 +1,5 @@
 use Rattle.std.proofs.Common.{◌≡◌, drop}
-use Rattle.qasm_scope.specs.Applications.{applications}
+use Rattle.qasm_names.specs.Applications.{applications}
 use Rattle.qasm_expand.specs.Sized.{sized}
 use Rattle.qasm_expand.proofs.registers.Registers.applications.Given as goal
 

@@ -1,6 +1,6 @@
 use Rattle.std.proofs.Common.{drop}
 use Rattle.qasm_expand.specs.Walks.{angles_in}
-use Rattle.qasm_expand.proofs.AngleLemmas.{Building}
+use Rattle.qasm_expand.proofs.AnglesLemmas.{Building}
 use Rattle.qasm_expand.proofs.walk.Walk.angles.Given as goal
 
 abbrev pub invariant-loop-expr : goal.invariant-loop-expr

@@ -5,13 +5,13 @@ use Rattle.std.proofs.lemmas.Result.{err_from_is_err_and}
 use Rattle.qasm_expand.specs.Items.Item.{Applied}
 use Rattle.qasm_expand.specs.Limits.{passed_by_calls}
 use Rattle.qasm_expand.specs.Walks.{OpensFrame, pending}
-use Rattle.qasm_expand.specs.AngleNodes.{IsClosed}
+use Rattle.qasm_expand.specs.AngleNodes.{HasNoNames}
 use Rattle.qasm_expand.specs.Fit.{IsFit}
 use Rattle.qasm_expand.proofs.CallLemmas.{counted_small, on_ok_map}
-use Rattle.qasm_expand.proofs.FaultLemmas.{fault_memory}
+use Rattle.qasm_expand.proofs.FaultsLemmas.{fault_memory}
 use Rattle.qasm_expand.proofs.FrameLemmas.{opens_fit}
 use Rattle.qasm_expand.proofs.TopLemmas.{angles_top, if_err_map, top_passes, top_visit}
-use Rattle.qasm_expand.proofs.WalkLemmas.{first_passes, walking_passes, walking_walks}
+use Rattle.qasm_expand.proofs.WalksLemmas.{first_passes, walking_passes, walking_walks}
 use Rattle.qasm_expand.proofs.walk.Walk.apply.Goals as goal
 
 pub returns-in_err-angles-clause-err : goal.returns-in_err-angles-clause-err
@@ -21,7 +21,7 @@ returns-in_err-angles-clause-err c =
 
 pub perform-requires-clause-closed : goal.perform-requires-clause-closed
 perform-requires-clause-closed c =
-    subst (AllByRecursion IsClosed) (flip (c.in_ok-angles.ensures.are ∙ angles_top c.args.angles.now)) c.requires.fit.0
+    subst (AllByRecursion HasNoNames) (flip (c.in_ok-angles.ensures.are ∙ angles_top c.args.angles.now)) c.requires.fit.0
 
 pub perform-requires-clause-small : goal.perform-requires-clause-small
 perform-requires-clause-small c = counted_small _ _ _ _ c.in_ok-angles.ensures.ok

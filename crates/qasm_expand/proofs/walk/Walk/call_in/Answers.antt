@@ -2,15 +2,15 @@ use Rattle.std.proofs.Common.{◌≡◌, ◌+◌, ◌∷◌, sym as flip, subst,
 use Rattle.std.specs.List.{AllByRecursion}
 use Rattle.std.specs.Prelude.{map, get_or, reverse}
 use Rattle.qasm_expand.specs.Walks.{angles_in, behind_call}
-use Rattle.qasm_expand.specs.AngleNodes.{IsClosed}
+use Rattle.qasm_expand.specs.AngleNodes.{HasNoNames}
 use Rattle.qasm_expand.proofs.CallLemmas.{on_ok_map, opens_same, call_visit, chosen_same, counted_small}
-use Rattle.qasm_expand.proofs.ClosedLemmas.{angles_closed}
+use Rattle.qasm_expand.proofs.AngleNodesLemmas.{angles_closed}
 use Rattle.qasm_expand.proofs.walk.Walk.call_in.Goals as goal
 
 pub perform-requires-clause-closed : goal.perform-requires-clause-closed
 perform-requires-clause-closed c =
     let are : c.in_ok-angles.angles ≡ angles_in c.args.gate.now.params c.args.frame.angles c.args.call.now.exprs = cc (c.in_ok-angles.ensures.are) in
-    subst (AllByRecursion IsClosed) (flip are) (angles_closed c.args.gate.now.params c.args.frame.angles c.args.call.now.exprs c.requires.params c.requires.closed c.requires.over)
+    subst (AllByRecursion HasNoNames) (flip are) (angles_closed c.args.gate.now.params c.args.frame.angles c.args.call.now.exprs c.requires.params c.requires.closed c.requires.over)
 
 pub perform-requires-clause-small : goal.perform-requires-clause-small
 perform-requires-clause-small c = counted_small _ _ _ _ c.in_ok-angles.ensures.ok

@@ -2,7 +2,7 @@ use Rattle.std.proofs.Common.{◌∷◌, subst}
 use Rattle.std.specs.Prelude.{reverse}
 use Rattle.std.proofs.lemmas.Result.{err_from_is_err_and}
 use Rattle.qasm_expand.specs.Walks.{pending}
-use Rattle.qasm_expand.proofs.WalkLemmas.{Walking, first_passes, walking_end, walking_none, walking_passes, walking_step}
+use Rattle.qasm_expand.proofs.WalksLemmas.{Walking, first_passes, walking_end, walking_none, walking_passes, walking_step}
 use Rattle.qasm_expand.proofs.walk.Walk.finish.Goals as goal
 
 pub loop-frame-init : goal.loop-frame-init

@@ -1,7 +1,7 @@
 use Rattle.std.proofs.Common.{◌+◌, ◌*◌, ◌-◌, length}
 use Rattle.std.specs.Prelude.{reverse}
 use Rattle.qasm_expand.specs.Walks.{AreFit, pending}
-use Rattle.qasm_expand.proofs.WalkLemmas.{Walking}
+use Rattle.qasm_expand.proofs.WalksLemmas.{Walking}
 use Rattle.qasm_expand.proofs.walk.Walk.finish.Given as goal
 
 abbrev pub invariant-loop-frame : goal.invariant-loop-frame

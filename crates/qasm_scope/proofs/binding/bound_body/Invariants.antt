@@ -1,6 +1,0 @@
-use Rattle.std.proofs.Common.{◌≡◌, take, map}
-use Rattle.qasm_scope.specs.Environment.{bound_call}
-use Rattle.qasm_scope.proofs.binding.bound_body.Given as goal
-
-abbrev pub invariant-loop-call : goal.invariant-loop-call
-invariant-loop-call l = l.bound.items ≡ map (bound_call l.known l.places) (take l.call-index l.body)

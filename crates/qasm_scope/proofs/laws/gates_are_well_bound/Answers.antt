@@ -1,5 +1,0 @@
-use Rattle.qasm_scope.proofs.BoundLemmas.{IsWellBound-admissible}
-use Rattle.qasm_scope.proofs.laws.gates_are_well_bound.Goals as goal
-
-pub returns : goal.returns
-returns c = IsWellBound-admissible

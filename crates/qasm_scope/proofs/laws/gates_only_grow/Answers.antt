@@ -1,5 +1,0 @@
-use Rattle.qasm_scope.proofs.BoundLemmas.{gates_grow}
-use Rattle.qasm_scope.proofs.laws.gates_only_grow.Goals as goal
-
-pub returns : goal.returns
-returns c = gates_grow

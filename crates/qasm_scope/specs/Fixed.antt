@@ -1,9 +1,0 @@
--- The fixed names, as tests.
-use Rattle.std.specs.Prelude.{ℕ, Bool, List}
-use Rattle.std.specs.List.{list_any}
-use Rattle.std.specs.Str.{bytes_eq}
-use Rattle.qasm_scope.specs.Header.{fixed_names}
-
--- whether a name is fixed
-abbrev pub is_fixed : List ℕ → Bool
-is_fixed name = list_any (bytes_eq name) fixed_names
