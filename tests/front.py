@@ -6,6 +6,7 @@ tokens, statements, scope and expansion by plain replacing.
 """
 import re
 import sys
+import threading
 
 RESERVED = "include qreg creg gate opaque measure reset barrier if pi sin cos tan exp ln sqrt".split()
 FUNCTIONS = "sin cos tan exp ln sqrt".split()
@@ -55,7 +56,6 @@ class Reader:
 
     def __init__(self, tokens, end):
         self.tokens, self.end, self.i = tokens, end, 0
-        sys.setrecursionlimit(100000)
 
     def peek(self, ahead=0):
         i = self.i + ahead
@@ -270,6 +270,7 @@ class Reader:
         return self.qop()
 
 
+MOST_CALLS = 262144
 FIRST = "u3 u2 u1 cx id x y z h s sdg t tdg rx ry rz cy ch ccx crz cu1 cu3 cz".split()
 
 
@@ -277,7 +278,8 @@ class Scope:
     def __init__(self, header=None):
         self.own, self.header = {}, header or {}
         self.included = False
-        self.read = set()
+        # what was measured: places, and of whole registers their sizes
+        self.read, self.read_whole = set(), {}
         self.items = []
         self.qubits = self.bits = 0
 
@@ -313,6 +315,30 @@ class Scope:
 
     def places(self, args, k):
         return [(w, k if i is None else i) for w, i, _ in args]
+
+    def repeats(self, args):
+        """Some application has a place twice."""
+        n = self.applications(args)
+        for at, (w, i, _) in enumerate(args):
+            for v, j, _ in args[:at]:
+                if w == v and n > 0 and (i == j or (i is None and j < n) or (j is None and i < n)):
+                    return True
+        return False
+
+    def was_read(self, args):
+        """Some application is on a place that was measured."""
+        n = self.applications(args)
+        for w, i, _ in args if n > 0 else []:
+            if i is None and (self.read_whole.get(w, 0) > 0 or any(v == w and k < n for v, k in self.read)):
+                return True
+            if i is not None and ((w, i) in self.read or i < self.read_whole.get(w, 0)):
+                return True
+        return False
+
+    def add(self, args, item):
+        """An item for each application; past the limit of calls no more are needed."""
+        for k in range(min(self.applications(args), MOST_CALLS + 1 - len(self.items))):
+            self.items.append(item(k))
 
     def refusals(self, s):
         kind = s[0]
@@ -354,13 +380,10 @@ class Scope:
             sizes = {self.size(w, "qreg") for w, i, _ in call["args"] if i is None}
             if len(sizes) > 1:
                 yield 10, call["at"]
-            n = self.applications(call["args"])
-            for k in range(min(n, 5000)):
-                p = self.places(call["args"], k)
-                if len(set(p)) < len(p):
-                    yield 12, call["at"]
-                if any(q in self.read for q in p):
-                    yield 14, call["at"]
+            if self.repeats(call["args"]):
+                yield 12, call["at"]
+            if self.was_read(call["args"]):
+                yield 14, call["at"]
             for e in call["exprs"]:
                 for at in names(e, []):
                     yield 13, at
@@ -368,9 +391,8 @@ class Scope:
             (w, i, _), (v, j, _) = s[1], s[2]
             if (i is None) != (j is None) or (i is None and self.size(w, "qreg") != self.size(v, "creg")):
                 yield 10, s[3]
-            for k in range(min(self.applications([s[1]]), 5000)):
-                if self.places([s[1]], k)[0] in self.read:
-                    yield 14, s[3]
+            if self.was_read([s[1]]):
+                yield 14, s[3]
         if kind in ("gate", "opaque"):
             seen = set()
             for n, at in s[2] + s[3]:
@@ -417,15 +439,15 @@ class Scope:
             self.own[s[1]] = ("gate", (params, body), len(params), len(args))
         if kind == "call":
             c = s[1]
-            for k in range(min(self.applications(c["args"]), 300000)):
-                p = self.places(c["args"], k)
-                self.items.append((self.callee(c["name"]), c["exprs"], p))
+            self.add(c["args"], lambda k: (self.callee(c["name"]), c["exprs"], self.places(c["args"], k)))
         if kind == "measure":
-            for k in range(min(self.applications([s[1]]), 300000)):
-                p = self.places([s[1]], k)[0]
-                self.read.add(p)
-                self.items.append((("read",), [], [p, self.places([s[2]], k)[0]]))
-        if kind == "barrier":
+            self.add([s[1]], lambda k: (("read",), [], self.places([s[1], s[2]], k)))
+            w, i, _ = s[1]
+            if i is None:
+                self.read_whole[w] = self.size(w, "qreg")
+            else:
+                self.read.add((w, i))
+        if kind == "barrier" and len(self.items) <= MOST_CALLS:
             self.items.append((("barrier",), [], []))
 
 
@@ -552,7 +574,7 @@ def native(scope):
     while pending:
         depth, (callee, exprs, args) = pending.pop()
         calls += 1
-        if calls > 262144:
+        if calls > MOST_CALLS:
             raise Limited("Calls", calls)
         if depth > 64:
             raise Limited("Depth", depth)
@@ -584,7 +606,18 @@ def native(scope):
     return ops
 
 
-def main():
+def deeply(work):
+    """Runs the work with room for statements that are nested as deep as a file can hold, and answers what it answers."""
+    sys.setrecursionlimit(10**7)
+    threading.stack_size(2**30)
+    answers = []
+    thread = threading.Thread(target=lambda: answers.append(work()))
+    thread.start()
+    thread.join()
+    return answers[0] if answers else sys.exit(1)
+
+
+def answer():
     source = open(sys.argv[1], "rb").read()
     try:
         for op in native(program(source)):
@@ -596,4 +629,4 @@ def main():
 
 
 if __name__ == "__main__":
-    main()
+    deeply(answer)

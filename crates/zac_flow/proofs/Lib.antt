@@ -1,5 +1,5 @@
 pub mod Reading
-pub mod OneRefusal
-pub mod Explaining
+pub mod OneFault
 pub mod Telling
+pub mod Meaning
 pub mod Ending

@@ -1,25 +1,26 @@
--- A source is accepted as one list of statements at most, or it is refused.
-use Rattle.std.proofs.Common.{◌≡◌, ◌≢◌, ℕ, ◌<◌, ◌≤◌, inl, inr, true, List, [], ◌∷◌, ◌++◌, Ok, length, refl, sym, ap, ◌∙◌, subst, arith, append_assoc}
+-- A source is accepted as one list of statements at most, or it is refused with one kind at one offset.
+use Rattle.std.proofs.Common.{◌≡◌, ◌≢◌, ℕ, ◌<◌, ◌≤◌, ◌⊎◌, inl, inr, true, List, [], ◌∷◌, ◌++◌, Ok, Err, length, refl, sym, ap, ◌∙◌, subst, arith, append_assoc}
 use Rattle.std.proofs.lemmas.List.{append-nil}
-use Rattle.qasm_lex.specs.Cuts.{AreTokensOf}
+use Rattle.qasm_lex.specs.Cuts.{IsLexFault}
 use Rattle.qasm_lex.specs.Lexed.{Lexed}
-use Rattle.qasm_lex.proofs.CutLemmas.{tokens_once, tokens_or_fault}
+use Rattle.qasm_lex.proofs.CutLemmas as lexing
 use Rattle.qasm_parse.specs.Statements.{IsStatement, IsSyntaxFault, Begins, FallInto}
 use Rattle.qasm_parse.specs.Symbols.{Lexeme, lexemes_of}
 use Rattle.qasm_parse.specs.declared.stmt.Stmt.{Stmt}
 use Rattle.qasm_parse.specs.declared.stmt.Stmt.TheVariants as stmt
+use Rattle.qasm_parse.specs.declared.stmt.SyntaxFault.TheVariants as parsing
 use Rattle.qasm_parse.specs.declared.symbol.Symbol.TheVariants as symbols
 use Rattle.qasm_parse.proofs.AnswerLemmas.{answer_every, answer_refused}
 use Rattle.qasm_parse.proofs.LoopLemmas.{length-lexemes_of}
-use Rattle.qasm_scope.specs.Accepted.{IsAdmissible, Program}
-use Rattle.qasm_scope.specs.Header.{IsHeader, header_text}
-use Rattle.qasm_scope.specs.declared.fault.ScopeKind.{ScopeKind}
-use Rattle.zac_flow.specs.Stages.{ExplainsReading, ExplainsStatement, StopsWith}
-use Rattle.zac_flow.specs.declared.status.Fault.{Fault}
-use Rattle.zac_flow.specs.declared.status.Fault.TheVariants as fault
+use Rattle.qasm_names.specs.Accepted.{IsAdmissible, Program}
+use Rattle.qasm_names.specs.Environment.{environment}
+use Rattle.qasm_names.specs.Header.{IsHeader, header_text}
+use Rattle.qasm_names.specs.Names.{Environment}
+use Rattle.qasm_names.specs.Refusals.{IsFirstRefusal, rank}
+use Rattle.qasm_names.specs.declared.fault.ScopeKind.{ScopeKind}
+use Rattle.zac_flow.specs.Source.{AreAccepted, IsAcceptedTo, IsAccepted, StopsWith, Stops, IsRefusedAt}
 use Rattle.zac_flow.specs.declared.source_fault.Refusal.{Refusal}
 use Rattle.zac_flow.specs.declared.source_fault.Refusal.TheVariants as kind
-use Rattle.zac_flow.specs.Source.{AreAccepted, IsAccepted, IsAcceptedTo, HasSyntaxFault, HasRefusal, IsRefusedAt}
 
 -- one statement stands at a place
 pub statement_once : (tokens : List Lexeme) (from : ℕ) (s t : Stmt) (n m : ℕ) → IsStatement tokens from s n → IsStatement tokens from t m → (s ≡ t) × (n ≡ m)
@@ -105,75 +106,166 @@ falls_once tokens from (s ∷ ss) (t ∷ ts) to left right =
 -- the header has one list of statements
 pub header_once : (h k : List Stmt) → IsHeader h → IsHeader k → h ≡ k
 header_once h k left right =
-    let same = tokens_once header_text right.lexed left.lexed right.tokens left.tokens in
+    let same = lexing.tokens_once header_text right.lexed left.lexed right.tokens left.tokens in
     falls_once (lexemes_of header_text left.lexed.tokens) 0 h k (length left.lexed.tokens) left.statements
     (subst (λ (l : Lexed). FallInto (lexemes_of header_text l.tokens) 0 k (length l.tokens)) same right.statements)
+
+first_once : (e : Environment) (before : List Stmt) (s : Stmt) (k l : ScopeKind) (a b : ℕ) → IsFirstRefusal e before s k a → IsFirstRefusal e before s l b → (k ≡ l) × (a ≡ b)
+first_once e before s k l a b left right =
+    elim (left.first l b right.refuses) [
+      | inl less ↦
+          elim (right.first k a left.refuses) [
+            | inl more ↦ absurd (omega (arith, less, more))
+            | inr same ↦ absurd (omega (arith, less, ap rank same.0))
+          ]
+      | inr same ↦
+          elim (right.first k a left.refuses) [
+            | inl more ↦ absurd (omega (arith, more, ap rank same.0))
+            | inr other ↦ (other.0, omega (arith, same.1, other.1))
+          ]
+    ]
+
+fault_once : (tokens : List Lexeme) (from end a b : ℕ) → IsSyntaxFault tokens from end a → IsSyntaxFault tokens from end b → a ≡ b
+fault_once tokens from end a b left right =
+    elim (answer_refused tokens from end (Err (parsing.At a)) left b right) [
+      | inl e ↦ cc
+      | inr e ↦ absurd (cc)
+    ]
+
+no_next : (tokens : List Lexeme) (end : ℕ) (before : Program) (from : ℕ) (k : Refusal) (at : ℕ) → StopsWith tokens from end before k at → Next before.header tokens before.statements from → ⊥
+no_next tokens end before from kind.Lex at stops next = absurd stops
+no_next tokens end before from kind.Syntax at stops next = statement_or_fault tokens from end next.statement next.next at next.is stops
+no_next tokens end before from (kind.Scope k) at stops next =
+    let one = statement_once tokens from stops.0 next.statement stops.1 next.next stops.2 next.is in
+    let first = subst (λ (s : Stmt). IsFirstRefusal (environment before.header before.statements) before.statements s k at) one.0 stops.3 in
+    next.admissible k at first.refuses
+
+stop_once : (tokens : List Lexeme) (end : ℕ) (before : Program) (from : ℕ) (k l : Refusal) (a b : ℕ) → StopsWith tokens from end before k a → StopsWith tokens from end before l b → (k ≡ l) × (a ≡ b)
+stop_once tokens end before from kind.Lex l a b left right = absurd left
+stop_once tokens end before from kind.Syntax kind.Lex a b left right = absurd right
+stop_once tokens end before from (kind.Scope k) kind.Lex a b left right = absurd right
+stop_once tokens end before from kind.Syntax kind.Syntax a b left right = (refl, fault_once tokens from end a b left right)
+stop_once tokens end before from kind.Syntax (kind.Scope l) a b left right =
+    absurd (statement_or_fault tokens from end right.0 right.1 a right.2 left)
+stop_once tokens end before from (kind.Scope k) kind.Syntax a b left right =
+    absurd (statement_or_fault tokens from end left.0 left.1 b left.2 right)
+stop_once tokens end before from (kind.Scope k) (kind.Scope l) a b left right =
+    let one = statement_once tokens from right.0 left.0 right.1 left.1 right.2 left.2 in
+    let e = environment before.header before.statements in
+    let same = first_once e before.statements left.0 k l a b left.3 (subst (λ (s : Stmt). IsFirstRefusal e before.statements s l b) one.0 right.3) in
+    (ap kind.Scope same.0, same.1)
+
+-- two readings of a source, up to two places
+module _ (source : List ℕ) (l m : Lexed) (p q : Program) (to end : ℕ) (left : IsAcceptedTo source l p to) (right : IsAcceptedTo source m q end) where
+  pub same_tokens : m ≡ l
+  same_tokens = lexing.tokens_once source m l right.tokens left.tokens
+
+  pub same_header : q.header ≡ p.header
+  same_header = header_once q.header p.header right.header left.header
+
+  -- the second over the tokens and the header of the first
+  pub retold : AreAccepted p.header (lexemes_of source l.tokens) [] 0 q.statements end
+  retold =
+      subst (λ (h : List Stmt). AreAccepted h (lexemes_of source l.tokens) [] 0 q.statements end) same_header
+      (subst (λ (x : Lexed). AreAccepted q.header (lexemes_of source x.tokens) [] 0 q.statements end) same_tokens right.statements)
+
+  -- two readings up to one place are one
+  pub one_reading : to ≡ end → p ≡ q
+  one_reading e =
+      let moved : AreAccepted p.header (lexemes_of source l.tokens) [] 0 q.statements to = subst (λ n. AreAccepted p.header (lexemes_of source l.tokens) [] 0 q.statements n) (sym e) retold in
+      let statements = one_way p.header (lexemes_of source l.tokens) [] 0 p.statements q.statements to left.statements moved in
+      λ i. record { header = sym same_header i; statements = statements i }
 
 -- a source is accepted in one way
 pub accepted_once : (source : List ℕ) (p q : Program) → IsAccepted source p → IsAccepted source q → p ≡ q
 accepted_once source p q left right =
-    let same = tokens_once source right.lexed left.lexed right.tokens left.tokens in
-    let headers = header_once p.header q.header left.header right.header in
-    let moved = subst (λ (l : Lexed). AreAccepted q.header (lexemes_of source l.tokens) [] 0 q.statements (length l.tokens)) same right.accepted in
-    let behind = subst (λ (h : List Stmt). AreAccepted h (lexemes_of source left.lexed.tokens) [] 0 q.statements (length left.lexed.tokens)) (sym headers) moved in
-    let statements = one_way p.header (lexemes_of source left.lexed.tokens) [] 0 p.statements q.statements (length left.lexed.tokens) left.accepted behind in
-    λ i. record { header = headers i; statements = statements i }
+    let same = same_tokens source left.lexed right.lexed p q (length left.lexed.tokens) (length right.lexed.tokens) left.all right.all in
+    one_reading source left.lexed right.lexed p q (length left.lexed.tokens) (length right.lexed.tokens) left.all right.all (ap (λ (x : Lexed). length x.tokens) (sym same))
 
-module _ (source : List ℕ) (p : Program) (accepted : IsAccepted source p) where
-  abbrev all : List Lexeme
-  all = lexemes_of source accepted.lexed.tokens
+-- no reading goes on behind the place of a stop
+stop_behind : (source : List ℕ) (k : Refusal) (at : ℕ) (s : Stops source k at) (l : Lexed) (p : Program) (to : ℕ) → IsAcceptedTo source l p to → s.from < to → ⊥
+stop_behind source k at s l p to read less =
+    no_next (lexemes_of source s.lexed.tokens) (length source) s.before s.from k at s.stops
+    (next_of s.before.header (lexemes_of source s.lexed.tokens) [] 0 p.statements s.before.statements s.from to
+    (retold source s.lexed l s.before p s.from to s.so_far read) s.so_far.statements less)
 
-  -- both readings are over the same header and the same tokens
-  same_tokens : (header : List Stmt) (others : List Lexeme) (ts : List Stmt) (from : ℕ) → IsAcceptedTo source header others ts from → others ≡ all
-  same_tokens header others ts from to =
-      to.tokens_are ∙ ap (λ (l : Lexed). lexemes_of source l.tokens) (tokens_once source to.lexed accepted.lexed to.lexed_is accepted.tokens)
+some_tokens : (header : List Stmt) (tokens : List Lexeme) (ts : List Stmt) → ts ≢ [] → (to : ℕ) → AreAccepted header tokens [] 0 ts to → 0 < to
+some_tokens header tokens [] some to h = absurd (some refl)
+some_tokens header tokens (t ∷ ts) some to h = omega (arith, h.1.goes_on, goes_on header tokens (t ∷ []) h.0 ts to h.3)
 
-  so_far_here : (header : List Stmt) (others : List Lexeme) (ts : List Stmt) (from : ℕ) → IsAcceptedTo source header others ts from → AreAccepted p.header all [] 0 ts from
-  so_far_here header others ts from to =
-      let headers = header_once header p.header to.header_is accepted.header in
-      subst (λ (h : List Stmt). AreAccepted h all [] 0 ts from) headers
-      (subst (λ (l : List Lexeme). AreAccepted header l [] 0 ts from) (same_tokens header others ts from to) to.accepted)
+not_stopped : (source : List ℕ) (p : Program) → IsAccepted source p → (k : Refusal) (at : ℕ) → Stops source k at → ⊥
+not_stopped source p accepted k at s = stop_behind source k at s accepted.lexed p (length accepted.lexed.tokens) accepted.all less where
+  same : s.lexed ≡ accepted.lexed
+  same = same_tokens source accepted.lexed s.lexed p s.before (length accepted.lexed.tokens) s.from accepted.all s.so_far
 
-  -- where tokens are left behind accepted statements, the next is accepted
-  next_is : (ts : List Stmt) (from : ℕ) → AreAccepted p.header all [] 0 ts from → from < length accepted.lexed.tokens → Next p.header all ts from
-  next_is ts from to less =
-      next_of p.header all [] 0 p.statements ts from (length accepted.lexed.tokens) accepted.accepted to less
+  some : 0 < length accepted.lexed.tokens
+  some = some_tokens p.header (lexemes_of source accepted.lexed.tokens) p.statements accepted.some (length accepted.lexed.tokens) accepted.all.statements
 
-  some_tokens : (ts : List Stmt) → ts ≢ [] → (to : ℕ) → AreAccepted p.header all [] 0 ts to → 0 < to
-  some_tokens [] some to h = absurd (some refl)
-  some_tokens (t ∷ ts) some to h = omega (arith, h.1.goes_on, goes_on p.header all (t ∷ []) h.0 ts to h.3)
+  start : s.before.statements ≡ [] → s.from ≡ 0
+  start none = subst (λ b. AreAccepted s.before.header (lexemes_of source s.lexed.tokens) [] 0 b s.from) none s.so_far.statements
 
-  no_syntax_fault : (at : ℕ) → HasSyntaxFault source at → ⊥
-  no_syntax_fault at h =
-      let same = same_tokens h.header h.tokens h.before h.from h.so_far in
-      let to = so_far_here h.header h.tokens h.before h.from h.so_far in
-      let fault = subst (λ (l : List Lexeme). IsSyntaxFault l h.from (length source) at) same h.fault in
-      let long = length-lexemes_of source accepted.lexed.tokens in
-      let less : h.from < length accepted.lexed.tokens =
-      elim h.is_due [
-        | inl lt ↦ omega (arith, lt, long, ap length same)
-        | inr none ↦ let start : h.from ≡ 0 = subst (λ b. AreAccepted p.header all [] 0 b h.from) none to in omega (arith, start, some_tokens p.statements accepted.some (length accepted.lexed.tokens) accepted.accepted)
-      ] in
-      let found = next_is h.before h.from to less in
-      statement_or_fault all h.from (length source) found.statement found.next at found.is fault
+  due : (s.from < length s.lexed.tokens) ⊎ (s.before.statements ≡ []) → s.from < length accepted.lexed.tokens
+  due (inl lt) = omega (arith, lt, ap (λ (x : Lexed). length x.tokens) same)
+  due (inr none) = omega (arith, start none, some)
 
-  no_refusal : (k : ScopeKind) (at : ℕ) → HasRefusal source k at → ⊥
-  no_refusal k at h =
-      let same = same_tokens h.header h.tokens h.before h.from h.so_far in
-      let to = so_far_here h.header h.tokens h.before h.from h.so_far in
-      let headers = header_once h.header p.header h.so_far.header_is accepted.header in
-      let is = subst (λ (l : List Lexeme). IsStatement l h.from h.statement h.next) same h.is in
-      let less : h.from < length accepted.lexed.tokens = omega (arith, is.goes_on, is.within, length-lexemes_of source accepted.lexed.tokens) in
-      let found = next_is h.before h.from to less in
-      let one = statement_once all h.from h.statement found.statement h.next found.next is found.is in
-      let admissible : IsAdmissible p.header h.before h.statement = subst (λ (s : Stmt). IsAdmissible p.header h.before s) (sym one.0) found.admissible in
-      (subst (λ (x : List Stmt). IsAdmissible x h.before h.statement) (sym headers) admissible) k at h.first.refuses
+  less : s.from < length accepted.lexed.tokens
+  less = due s.is_due
 
-  -- an accepted source isn't refused
-  pub accepted_or_refused : (k : Refusal) (at : ℕ) → IsRefusedAt source k at → ⊥
-  accepted_or_refused kind.Lex at h = tokens_or_fault source accepted.lexed at accepted.tokens h
-  accepted_or_refused kind.Syntax at h = no_syntax_fault at h
-  accepted_or_refused (kind.Scope k) at h = no_refusal k at h
+-- an accepted source isn't refused
+pub accepted_or_refused : (source : List ℕ) (p : Program) → IsAccepted source p → (k : Refusal) (at : ℕ) → IsRefusedAt source k at → ⊥
+accepted_or_refused source p accepted kind.Lex at h = lexing.tokens_or_fault source accepted.lexed at accepted.all.tokens h
+accepted_or_refused source p accepted kind.Syntax at h = not_stopped source p accepted kind.Syntax at h
+accepted_or_refused source p accepted (kind.Scope k) at h = not_stopped source p accepted (kind.Scope k) at h
+
+stops_once : (source : List ℕ) (k l : Refusal) (a b : ℕ) → Stops source k a → Stops source l b → (k ≡ l) × (a ≡ b)
+stops_once source k l a b s t = by_places (places s.from t.from) where
+  places : (m n : ℕ) → (m < n) ⊎ (n < m) ⊎ (m ≡ n)
+  places m n = grind arith
+
+  by_places : (s.from < t.from) ⊎ (t.from < s.from) ⊎ (s.from ≡ t.from) → (k ≡ l) × (a ≡ b)
+  by_places (inl less) = absurd (stop_behind source k a s t.lexed t.before t.from t.so_far less)
+  by_places (inr (inl more)) = absurd (stop_behind source l b t s.lexed s.before s.from s.so_far more)
+  by_places (inr (inr e)) =
+      let tokens = same_tokens source s.lexed t.lexed s.before t.before s.from t.from s.so_far t.so_far in
+      let before = one_reading source s.lexed t.lexed s.before t.before s.from t.from s.so_far t.so_far e in
+      let here : StopsWith (lexemes_of source s.lexed.tokens) t.from (length source) t.before l b = subst (λ (x : Lexed). StopsWith (lexemes_of source x.tokens) t.from (length source) t.before l b) tokens t.stops in
+      let moved : StopsWith (lexemes_of source s.lexed.tokens) t.from (length source) s.before l b = subst (λ (x : Program). StopsWith (lexemes_of source s.lexed.tokens) t.from (length source) x l b) (sym before) here in
+      stop_once (lexemes_of source s.lexed.tokens) (length source) s.before s.from k l a b s.stops
+      (subst (λ n. StopsWith (lexemes_of source s.lexed.tokens) n (length source) s.before l b) (sym e) moved)
+
+-- its tokens don't refuse a source that stops
+lexed_or_fault : (source : List ℕ) (k : Refusal) (at other : ℕ) → Stops source k at → IsLexFault source other → ⊥
+lexed_or_fault source k at other s h = lexing.tokens_or_fault source s.lexed other s.so_far.tokens h
+
+-- each refusal of a source is the same
+pub refused_once : (source : List ℕ) (k l : Refusal) (a b : ℕ) → IsRefusedAt source k a → IsRefusedAt source l b → (k ≡ l) × (a ≡ b)
+refused_once source kind.Lex kind.Lex a b left right = (refl, lexing.fault_once source a b left right)
+refused_once source kind.Lex kind.Syntax a b left right = absurd (lexed_or_fault source kind.Syntax b a right left)
+refused_once source kind.Lex (kind.Scope l) a b left right = absurd (lexed_or_fault source (kind.Scope l) b a right left)
+refused_once source kind.Syntax kind.Lex a b left right = absurd (lexed_or_fault source kind.Syntax a b left right)
+refused_once source (kind.Scope k) kind.Lex a b left right = absurd (lexed_or_fault source (kind.Scope k) a b left right)
+refused_once source kind.Syntax kind.Syntax a b left right = stops_once source kind.Syntax kind.Syntax a b left right
+refused_once source kind.Syntax (kind.Scope l) a b left right = stops_once source kind.Syntax (kind.Scope l) a b left right
+refused_once source (kind.Scope k) kind.Syntax a b left right = stops_once source (kind.Scope k) kind.Syntax a b left right
+refused_once source (kind.Scope k) (kind.Scope l) a b left right = stops_once source (kind.Scope k) (kind.Scope l) a b left right
+
+-- a stop behind accepted statements refuses the source
+pub refused_there : (source : List ℕ) (lexed : Lexed) (before : Program) (from : ℕ) (k : Refusal) (at : ℕ) → IsAcceptedTo source lexed before from →
+    from < length lexed.tokens → StopsWith (lexemes_of source lexed.tokens) from (length source) before k at → IsRefusedAt source k at
+refused_there source lexed before from kind.Lex at so_far less why = absurd why
+refused_there source lexed before from kind.Syntax at so_far less why = record { lexed = lexed; before = before; from = from; so_far = so_far; is_due = inl less; stops = why }
+refused_there source lexed before from (kind.Scope k) at so_far less why = record { lexed = lexed; before = before; from = from; so_far = so_far; is_due = inl less; stops = why }
+
+-- one more statement behind accepted ones
+pub accepted_more : (source : List ℕ) (lexed : Lexed) (before after : Program) (from next : ℕ) (s : Stmt) → IsAcceptedTo source lexed before from →
+    IsStatement (lexemes_of source lexed.tokens) from s next → IsAdmissible before.header before.statements s →
+    after ≡ record { header = before.header; statements = before.statements ++ s ∷ [] } → IsAcceptedTo source lexed after next
+accepted_more source lexed before after from next s so_far is admissible grown =
+    subst (λ (x : Program). IsAcceptedTo source lexed x next) (sym grown) (record {
+      tokens = so_far.tokens;
+      header = so_far.header;
+      statements = accepted_push before.header (lexemes_of source lexed.tokens) [] 0 before.statements from s next so_far.statements is admissible;
+    })
 
 -- a version begins with no token
 version_begins : Begins 0 []
@@ -198,60 +290,25 @@ version_begins =
 pub no_version : (end : ℕ) → IsSyntaxFault [] 0 end end
 no_version end = ([], [], refl, refl, version_begins, tt)
 
--- a fault at a place behind accepted statements is that of the source
-stopped : (source : List ℕ) (lexed : Lexed) (before : Program) (place : ℕ) (k : Refusal) (at : ℕ) → AreTokensOf source lexed → IsHeader before.header →
-    AreAccepted before.header (lexemes_of source lexed.tokens) [] 0 before.statements place → place < length lexed.tokens →
-    StopsWith (lexemes_of source lexed.tokens) place (length source) before k at → IsRefusedAt source k at
-stopped source lexed before place kind.Lex at are header so_far less why = absurd why
-stopped source lexed before place kind.Syntax at are header so_far less why = record {
-  header = before.header;
-  tokens = lexemes_of source lexed.tokens;
-  before = before.statements;
-  from = place;
-  so_far = record { lexed = lexed; lexed_is = are; header_is = header; tokens_are = refl; accepted = so_far };
-  is_due = inl (omega (arith, less, length-lexemes_of source lexed.tokens));
-  fault = why;
-}
-stopped source lexed before place (kind.Scope k) at are header so_far less why = record {
-  header = before.header;
-  tokens = lexemes_of source lexed.tokens;
-  before = before.statements;
-  from = place;
-  so_far = record { lexed = lexed; lexed_is = are; header_is = header; tokens_are = refl; accepted = so_far };
-  statement = why.0;
-  next = why.1;
-  is = why.2;
-  first = why.3;
-}
-
-pub explained : (source : List ℕ) (lexed : Lexed) (before : Program) (place : ℕ) (f : Fault) → AreTokensOf source lexed → IsHeader before.header →
-    AreAccepted before.header (lexemes_of source lexed.tokens) [] 0 before.statements place →
-    place < length lexed.tokens → ExplainsStatement (lexemes_of source lexed.tokens) place (length source) before f → ExplainsReading source f
-explained source lexed before place (fault.Source k at) are header so_far less why = stopped source lexed before place k at are header so_far less why
-explained source lexed before place (fault.Limit k n) are header so_far less why = absurd why
-explained source lexed before place fault.Memory are header so_far less why = tt
-explained source lexed before place fault.Usage are header so_far less why = absurd why
-explained source lexed before place fault.Read are header so_far less why = absurd why
-explained source lexed before place fault.Long are header so_far less why = absurd why
-explained source lexed before place (fault.Qubits n s) are header so_far less why = absurd why
-explained source lexed before place fault.Write are header so_far less why = absurd why
-
 -- tokens that fall into no statement are none, and the version is missing at the end
-pub version_missing : (source : List ℕ) (lexed : Lexed) (header ss : List Stmt) → AreTokensOf source lexed → IsHeader header → length ss ≡ 0 → AreAccepted header (lexemes_of source lexed.tokens) [] 0 ss (length lexed.tokens) → HasSyntaxFault source (length source)
-version_missing source lexed header (s ∷ ss) are is none so_far = absurd (omega (arith, none))
-version_missing source lexed header [] are is none so_far =
-    let all = lexemes_of source lexed.tokens in
-    let count : length all ≡ 0 = omega (arith, so_far, length-lexemes_of source lexed.tokens) in
-    let nothing : all ≡ [] = empty all count in
-    record {
-      header = header;
-      tokens = all;
-      before = [];
-      from = 0;
-      so_far = record { lexed = lexed; lexed_is = are; header_is = is; tokens_are = refl; accepted = refl };
-      is_due = inr refl;
-      fault = subst (λ l. IsSyntaxFault l 0 (length source) (length source)) (sym nothing) (no_version (length source));
-    } where
-      empty : (l : List Lexeme) → length l ≡ 0 → l ≡ []
-      empty [] e = refl
-      empty (x ∷ l) e = absurd (omega (arith, e))
+pub version_missing : (source : List ℕ) (lexed : Lexed) (p : Program) → IsAcceptedTo source lexed p (length lexed.tokens) → p.statements ≡ [] → IsRefusedAt source kind.Syntax (length source)
+version_missing source lexed p so_far none = record {
+  lexed = lexed;
+  before = p;
+  from = length lexed.tokens;
+  so_far = so_far;
+  is_due = inr none;
+  stops = subst (λ n. IsSyntaxFault all n (length source) (length source)) (sym start) (subst (λ l. IsSyntaxFault l 0 (length source) (length source)) (sym nothing) (no_version (length source)));
+} where
+  all : List Lexeme
+  all = lexemes_of source lexed.tokens
+
+  start : length lexed.tokens ≡ 0
+  start = subst (λ b. AreAccepted p.header all [] 0 b (length lexed.tokens)) none so_far.statements
+
+  empty : (l : List Lexeme) → length l ≡ 0 → l ≡ []
+  empty [] e = refl
+  empty (x ∷ l) e = absurd (omega (arith, e))
+
+  nothing : all ≡ []
+  nothing = empty all (omega (arith, start, length-lexemes_of source lexed.tokens))

@@ -1,31 +1,29 @@
--- Five pieces that are written one after another.
-use Rattle.std.proofs.Common.{ℕ, List, ◌++◌, Option}
+-- Parts that are written one behind the other.
+use Rattle.std.proofs.Common.{◌≡◌, ℕ, suc, ◌+◌, ◌<◌, List, ◌∷◌, ◌++◌, map, drop, get_or, length, sym, ap, ◌∙◌, subst, append_assoc, drop-cons, arith, Option}
 use Rattle.zac_io.specs.Outside.{Appends, AppendsPrefix}
 use Rattle.zac_io.proofs.Growth.{Appends-append, AppendsPrefix-append, AppendsPrefix-after}
+use Rattle.zair_text.specs.Lines.{joined}
+use Rattle.zac_flow.specs.Parts.{part_bytes}
+use Rattle.zac_flow.specs.declared.refusal.Part.{Part}
 
-module _ (w v : Option (List ℕ)) (p q r s t : List ℕ) where
-  pub first_fails : AppendsPrefix w v p → AppendsPrefix w v (p ++ (q ++ (r ++ (s ++ t))))
-  first_fails h = AppendsPrefix-append w v p (q ++ (r ++ (s ++ t))) h
+module _ (parts : List Part) (k : ℕ) (d : Part) (less : k < length parts) (said : List ℕ) (is : said ++ joined (map part_bytes (drop k parts)) ≡ joined (map part_bytes parts)) where
+  next : drop k parts ≡ get_or parts k d ∷ drop (k + 1) parts
+  next = let after : suc k ≡ k + 1 = omega arith in drop-cons parts k d less ∙ ap (λ (n : ℕ). get_or parts k d ∷ drop n parts) after
 
-  pub second_fails : (a : Option (List ℕ)) → Appends w a p → AppendsPrefix a v q → AppendsPrefix w v (p ++ (q ++ (r ++ (s ++ t))))
-  second_fails a h i = AppendsPrefix-after w a v p (q ++ (r ++ (s ++ t))) h (AppendsPrefix-append a v q (r ++ (s ++ t)) i)
+  -- all of them are what was said, the next part and the rest
+  all : said ++ (part_bytes (get_or parts k d) ++ joined (map part_bytes (drop (k + 1) parts))) ≡ joined (map part_bytes parts)
+  all = ap (λ (l : List Part). said ++ joined (map part_bytes l)) (sym next) ∙ is
 
-  pub third_fails : (a b : Option (List ℕ)) → Appends w a p → Appends a b q → AppendsPrefix b v r → AppendsPrefix w v (p ++ (q ++ (r ++ (s ++ t))))
-  third_fails a b h i j =
-      AppendsPrefix-after w a v p (q ++ (r ++ (s ++ t))) h
-      (AppendsPrefix-after a b v q (r ++ (s ++ t)) i (AppendsPrefix-append b v r (s ++ t) j))
+  pub said_more : (w a b : Option (List ℕ)) → Appends w a said → Appends a b (part_bytes (get_or parts k d)) →
+      (more : List ℕ) × (more ++ joined (map part_bytes (drop (k + 1) parts)) ≡ joined (map part_bytes parts)) × Appends w b more
+  said_more w a b h i = (
+    said ++ part_bytes (get_or parts k d),
+    append_assoc said (part_bytes (get_or parts k d)) (joined (map part_bytes (drop (k + 1) parts))) ∙ all,
+    Appends-append w a b said (part_bytes (get_or parts k d)) h i,
+  )
 
-  pub fourth_fails : (a b c : Option (List ℕ)) → Appends w a p → Appends a b q → Appends b c r → AppendsPrefix c v s → AppendsPrefix w v (p ++ (q ++ (r ++ (s ++ t))))
-  fourth_fails a b c h i j k =
-      AppendsPrefix-after w a v p (q ++ (r ++ (s ++ t))) h
-      (AppendsPrefix-after a b v q (r ++ (s ++ t)) i (AppendsPrefix-after b c v r (s ++ t) j (AppendsPrefix-append c v s t k)))
-
-  pub fifth_fails : (a b c d : Option (List ℕ)) → Appends w a p → Appends a b q → Appends b c r → Appends c d s → AppendsPrefix d v t → AppendsPrefix w v (p ++ (q ++ (r ++ (s ++ t))))
-  fifth_fails a b c d h i j k l =
-      AppendsPrefix-after w a v p (q ++ (r ++ (s ++ t))) h
-      (AppendsPrefix-after a b v q (r ++ (s ++ t)) i (AppendsPrefix-after b c v r (s ++ t) j (AppendsPrefix-after c d v s t k l)))
-
-  pub all_written : (a b c d : Option (List ℕ)) → Appends w a p → Appends a b q → Appends b c r → Appends c d s → Appends d v t → Appends w v (p ++ (q ++ (r ++ (s ++ t))))
-  all_written a b c d h i j k l =
-      Appends-append w a v p (q ++ (r ++ (s ++ t))) h
-      (Appends-append a b v q (r ++ (s ++ t)) i (Appends-append b c v r (s ++ t) j (Appends-append c d v s t k l)))
+  pub said_in_part : (w a b : Option (List ℕ)) → Appends w a said → AppendsPrefix a b (part_bytes (get_or parts k d)) → AppendsPrefix w b (joined (map part_bytes parts))
+  said_in_part w a b h i =
+      subst (λ (l : List ℕ). AppendsPrefix w b l) all
+      (AppendsPrefix-after w a b said (part_bytes (get_or parts k d) ++ joined (map part_bytes (drop (k + 1) parts))) h
+      (AppendsPrefix-append a b (part_bytes (get_or parts k d)) (joined (map part_bytes (drop (k + 1) parts))) i))

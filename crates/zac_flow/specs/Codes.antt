@@ -3,6 +3,8 @@ use Rattle.std.specs.Prelude.{ℕ}
 use Rattle.zac_flow.specs.declared.status.Status.{Status}
 use Rattle.zac_flow.specs.declared.status.Status.TheVariants.{Done, SourceRefused, Usage, ReadFault, WriteFault, NoMemory, TooManyQubits, TooLong, Limit}
 
+-- The number of each status: Done 0, SourceRefused 1, Usage 2, ReadFault 3, WriteFault 4, NoMemory 5, TooManyQubits 7,
+-- TooLong 10, Limit 11.
 abbrev pub code_of : Status → ℕ
 code_of Done = 0
 code_of SourceRefused = 1

@@ -2,12 +2,12 @@
 use Rattle.std.specs.Prelude.{ℕ, List, codes}
 use Rattle.qasm_expand.specs.declared.fault.LimitKind.{LimitKind}
 use Rattle.qasm_expand.specs.declared.fault.LimitKind.TheVariants as limit
-use Rattle.qasm_scope.specs.declared.fault.ScopeKind.{ScopeKind}
-use Rattle.qasm_scope.specs.declared.fault.ScopeKind.TheVariants as scope
+use Rattle.qasm_names.specs.declared.fault.ScopeKind.{ScopeKind}
+use Rattle.qasm_names.specs.declared.fault.ScopeKind.TheVariants as scope
 use Rattle.zac_flow.specs.declared.source_fault.Refusal.{Refusal}
 use Rattle.zac_flow.specs.declared.source_fault.Refusal.TheVariants.{Lex, Syntax, Scope}
 
--- the name of a statement's refusal
+-- The name of each kind of a statement's refusal, from `Version` to `AfterRead`.
 abbrev pub scope_name : ScopeKind → List ℕ
 scope_name scope.Version = codes "Version"
 scope_name scope.Control = codes "Control"
@@ -25,13 +25,13 @@ scope_name scope.Repeated = codes "Repeated"
 scope_name scope.Name = codes "Name"
 scope_name scope.AfterRead = codes "AfterRead"
 
--- the name of a kind
+-- The name of each kind of a source's refusal: `Lex`, `Syntax`, or that of a statement's refusal.
 abbrev pub name_of : Refusal → List ℕ
 name_of Lex = codes "Lex"
 name_of Syntax = codes "Syntax"
 name_of (Scope k) = scope_name k
 
--- the name of a limit
+-- The name of each limit: `Literal`, `Qubits`, `Bits`, `Calls`, `Depth`, `AngleNodes`, `AngleDepth`, `AngleTotal`.
 abbrev pub limit_name : LimitKind → List ℕ
 limit_name limit.Literal = codes "Literal"
 limit_name limit.Qubits = codes "Qubits"

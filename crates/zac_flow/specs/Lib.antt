@@ -1,8 +1,8 @@
 pub mod Kinds
 pub mod Source
 pub mod Words
-pub mod Ends
+pub mod Compiled
+pub mod Parts
+pub mod Faults
 pub mod Answers
 pub mod Codes
-pub mod Stages
-pub mod Told

@@ -5,62 +5,53 @@ use Rattle.qasm_lex.specs.Lexed.{Lexed}
 use Rattle.qasm_parse.specs.Statements.{IsStatement, IsSyntaxFault}
 use Rattle.qasm_parse.specs.Symbols.{Lexeme, lexemes_of}
 use Rattle.qasm_parse.specs.declared.stmt.Stmt.{Stmt}
-use Rattle.qasm_scope.specs.Accepted.{IsAdmissible, Program}
-use Rattle.qasm_scope.specs.Environment.{environment}
-use Rattle.qasm_scope.specs.Header.{IsHeader}
-use Rattle.qasm_scope.specs.Refusals.{IsFirstRefusal}
-use Rattle.qasm_scope.specs.declared.fault.ScopeKind.{ScopeKind}
+use Rattle.qasm_names.specs.Accepted.{IsAdmissible, Program}
+use Rattle.qasm_names.specs.Environment.{environment}
+use Rattle.qasm_names.specs.Header.{IsHeader}
+use Rattle.qasm_names.specs.Refusals.{IsFirstRefusal}
 use Rattle.zac_flow.specs.declared.source_fault.Refusal.{Refusal}
 use Rattle.zac_flow.specs.declared.source_fault.Refusal.TheVariants as kind
 
--- the tokens from a place up to another are these statements, none of which is refused behind those before it
+-- The tokens from one place up to another are these statements, none of which is refused behind the header and those
+-- before it.
 abbrev pub AreAccepted : List Stmt → List Lexeme → List Stmt → ℕ → List Stmt → ℕ → Type 0
 AreAccepted header tokens before from [] to = to ≡ from
 AreAccepted header tokens before from (s ∷ ss) to =
     (next : ℕ) × IsStatement tokens from s next × IsAdmissible header before s × AreAccepted header tokens (before ++ s ∷ []) next ss to
 
--- The source is accepted as this program: its tokens are its statements, from the first to the last, and there is one at
--- least; and its header is the one that an include stands for.
-pub record IsAccepted (source : List ℕ) (program : Program) : Type 0 where
-  pub lexed : Lexed
+-- The source has these tokens, the program's header is the header, and from the first token up to a place they are the
+-- program's statements, so accepted.
+pub record IsAcceptedTo (source : List ℕ) (lexed : Lexed) (program : Program) (to : ℕ) : Type 0 where
   pub tokens : AreTokensOf source lexed
   pub header : IsHeader program.header
-  pub some : program.statements ≢ []
-  pub accepted : AreAccepted program.header (lexemes_of source lexed.tokens) [] 0 program.statements (length lexed.tokens)
+  pub statements : AreAccepted program.header (lexemes_of source lexed.tokens) [] 0 program.statements to
 
--- the source's tokens up to a place are statements that are accepted
-pub record IsAcceptedTo (source : List ℕ) (header : List Stmt) (tokens : List Lexeme) (before : List Stmt) (from : ℕ) : Type 0 where
+-- The source's tokens, from the first to the last, are the program's statements, so accepted, and there is one at least.
+pub record IsAccepted (source : List ℕ) (program : Program) : Type 0 where
   pub lexed : Lexed
-  pub lexed_is : AreTokensOf source lexed
-  pub header_is : IsHeader header
-  pub tokens_are : tokens ≡ lexemes_of source lexed.tokens
-  pub accepted : AreAccepted header tokens [] 0 before from
+  pub all : IsAcceptedTo source lexed program (length lexed.tokens)
+  pub some : program.statements ≢ []
 
--- behind accepted statements, where tokens are left or there is no statement yet, none is read: the fault stands there
-pub record HasSyntaxFault (source : List ℕ) (at : ℕ) : Type 0 where
-  pub header : List Stmt
-  pub tokens : List Lexeme
-  pub before : List Stmt
+-- At a place of the tokens, behind a program's statements: `Syntax` where no statement is read and the fault has this
+-- offset; each other kind where one is read and this is its first refusal. `Lex` never.
+abbrev pub StopsWith : List Lexeme → ℕ → ℕ → Program → Refusal → ℕ → Type 0
+StopsWith tokens from end before kind.Lex at = ⊥
+StopsWith tokens from end before kind.Syntax at = IsSyntaxFault tokens from end at
+StopsWith tokens from end before (kind.Scope k) at =
+    (s : Stmt) × (next : ℕ) × IsStatement tokens from s next × IsFirstRefusal (environment before.header before.statements) before.statements s k at
+
+-- Behind accepted statements, where tokens are left or there is no statement yet, the source stops with this kind at
+-- this offset.
+pub record Stops (source : List ℕ) (k : Refusal) (at : ℕ) : Type 0 where
+  pub lexed : Lexed
+  pub before : Program
   pub from : ℕ
-  pub so_far : IsAcceptedTo source header tokens before from
-  pub is_due : (from < length tokens) ⊎ (before ≡ [])
-  pub fault : IsSyntaxFault tokens from (length source) at
+  pub so_far : IsAcceptedTo source lexed before from
+  pub is_due : (from < length lexed.tokens) ⊎ (before.statements ≡ [])
+  pub stops : StopsWith (lexemes_of source lexed.tokens) from (length source) before k at
 
--- behind accepted statements one is read, and this is its first refusal
-pub record HasRefusal (source : List ℕ) (k : ScopeKind) (at : ℕ) : Type 0 where
-  pub header : List Stmt
-  pub tokens : List Lexeme
-  pub before : List Stmt
-  pub from : ℕ
-  pub so_far : IsAcceptedTo source header tokens before from
-  pub statement : Stmt
-  pub next : ℕ
-  pub is : IsStatement tokens from statement next
-  pub first : IsFirstRefusal (environment header before) before statement k at
-
--- The source is refused with this kind at this offset. Tokens are judged first, then each statement in turn: whether
--- one stands there, and whether it is refused behind those before it.
+-- The source is refused with this kind at this offset: `Lex` where no piece begins there; each other kind where the
+-- source has tokens and stops so.
 abbrev pub IsRefusedAt : List ℕ → Refusal → ℕ → Type 0
 IsRefusedAt source kind.Lex at = IsLexFault source at
-IsRefusedAt source kind.Syntax at = HasSyntaxFault source at
-IsRefusedAt source (kind.Scope k) at = HasRefusal source k at
+IsRefusedAt source k at = Stops source k at

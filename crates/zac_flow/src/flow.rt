@@ -1,28 +1,21 @@
 //! The top call.
 
-ghost use Rattle.std.specs.Prelude.{◌≡◌, Err, IfErr, OnOk, IsTrue, map, string_bytes, MatchOption, None};
-ghost use Rattle.zac_io.specs.Outside.{Rose, RoseWhere, is_missing, Appends, AppendsPrefix};
-ghost use Rattle.zac_flow.specs.Ends.{status_of, refusal_line};
-ghost use Rattle.zac_flow.specs.Words.{file_of};
-ghost use Rattle.zac_flow.specs.Answers.{WritesProgram, Explains, Cause, IsExact, RisesAt, Tells};
-ghost use Rattle.zac_flow.specs.Told.{HasShelfCause, HasSinkCause};
+ghost use Rattle.std.specs.Prelude.{◌≡◌, ◌≢◌, Err, IfErr, OnOk, map, string_bytes, MatchOption, Some};
+ghost use Rattle.zac_io.specs.Outside.{Rose, RoseWhere, is_missing};
+ghost use Rattle.zac_flow.specs.Answers.{WritesProgram, IsTold, IsRefusedBy, IsExact, RisesAt};
+ghost use Rattle.zac_flow.specs.Faults.{status_of, fault_line, Means, Leaves};
+ghost use Rattle.zac_flow.specs.Words.{named_file};
 
-use crate::stages::{circuit_from, program_from};
+use crate::stages::{program_from, source_from, write_text};
 use crate::status::{Fault, Status};
 use crate::words::file_name;
 use std::alloc::Global;
-use zac_io::{Shelf, Sink, read_all};
-use zair_text::write_program;
-
-/// The most bytes of a source.
-const SOURCE_LIMIT: u32 = 4_194_304;
+use zac_io::{Shelf, Sink};
 
 /// Tells the refusal, and answers its status.
 fn refuse<E: Sink>(fault: Fault, err: &mut E) -> Status
     ensures status { result ≡ status_of fault }
-    ensures told { AppendsPrefix (E.written err.old) (E.written err.new) (refusal_line fault) }
-    ensures whole { ¬ Rose (E.faults err.old) (E.faults err.new)
-        → Appends (E.written err.old) (E.written err.new) (refusal_line fault) }
+    ensures told { IsTold (E.written err.old) (E.written err.new) (E.faults err.old) (E.faults err.new) (fault_line fault) }
 {
     let _told = fault.tell(err);
     fault.status()
@@ -35,19 +28,17 @@ fn compile_file<S: Shelf, K: Sink>(
     shelf: &mut S,
     out: &mut K,
 ) -> Result<(), Fault>
-    ensures ok { OnOk result (WritesProgram (S.files shelf.old) name.now (K.written out.old) (K.written out.new)) }
-    ensures err { IfErr result (Explains (S.files shelf.old) name.now (K.written out.old) (K.written out.new)) }
-    ensures shelf_cause { HasShelfCause result (S.faults shelf.old) (S.faults shelf.new) }
-    ensures sink_cause { HasSinkCause result (K.faults out.old) (K.faults out.new) }
+    ensures done { OnOk result (WritesProgram (S.files shelf.old) (Some name.now) (K.written out.old) (K.written out.new)) }
+    ensures means { IfErr result (Means (S.files shelf.old) (Some name.now)) }
+    ensures leaves { IfErr result (Leaves (S.files shelf.old) (Some name.now) (K.written out.old) (K.written out.new)) }
+    ensures reads { RisesAt (Err Fault.Read) result (S.faults shelf.old) (S.faults shelf.new) }
+    ensures writes { RisesAt (Err Fault.Write) result (K.faults out.old) (K.faults out.new) }
     ensures stray { RoseWhere (is_missing (S.files shelf.old) name.now) (S.strays shelf.old) (S.strays shelf.new) }
-    ensures missing { IsTrue (is_missing (S.files shelf.old) name.now) → result ≡ Err Fault.Read }
     ensures same_files { S.files shelf.new ≡ S.files shelf.old }
 {
-    let source = read_all(alloc, shelf, name, SOURCE_LIMIT)?;
-    let circuit = circuit_from(alloc, source.as_slice())?;
-    let program = program_from(alloc, &circuit)?;
-    write_program(alloc, &program, out)?;
-    Ok(())
+    let source = source_from(alloc, shelf, name)?;
+    let program = program_from(alloc, source.as_slice())?;
+    write_text(alloc, &program, out)
 }
 
 /// Does what the words say. The words are those after the program's name: `compile @tiny FILE`.
@@ -72,22 +63,23 @@ pub fn run<S: Shelf, K: Sink, E: Sink>(
     out: &mut K,
     err: &mut E,
 ) -> Status
-    // Why it ends so, and what it left in out.
-    ensures cause { Cause (S.files shelf.old) (file_of (map (λ word. string_bytes word) words.now))
-        (K.written out.old) (K.written out.new) result }
+    // Where it is done, it wrote the program, and told nothing.
+    ensures done { result ≡ Status.Done → WritesProgram (S.files shelf.old) (named_file (map (λ word. string_bytes word) words.now))
+        (K.written out.old) (K.written out.new) }
+    ensures quiet { result ≡ Status.Done → err.new ≡ err.old }
+    // Else one fault says why, what it left in out, and what was told.
+    ensures refused { result ≢ Status.Done → IsRefusedBy (S.files shelf.old) (named_file (map (λ word. string_bytes word) words.now)) result
+        (K.written out.old) (K.written out.new) (E.written err.old) (E.written err.new) (E.faults err.old) (E.faults err.new) }
     // Where no call fails, each file gets the status that it deserves.
     ensures exact { ¬ Rose (S.faults shelf.old) (S.faults shelf.new) → ¬ Rose (K.faults out.old) (K.faults out.new)
-        → IsExact (S.files shelf.old) (file_of (map (λ word. string_bytes word) words.now)) result }
+        → IsExact (S.files shelf.old) (named_file (map (λ word. string_bytes word) words.now)) result }
     // Failed calls.
     ensures reads { RisesAt Status.ReadFault result (S.faults shelf.old) (S.faults shelf.new) }
     ensures writes { RisesAt Status.WriteFault result (K.faults out.old) (K.faults out.new) }
-    ensures strays { MatchOption (file_of (map (λ word. string_bytes word) words.now))
+    ensures strays { MatchOption (named_file (map (λ word. string_bytes word) words.now))
         (S.strays shelf.new ≡ S.strays shelf.old)
         (λ name. RoseWhere (is_missing (S.files shelf.old) name) (S.strays shelf.old) (S.strays shelf.new)) }
     ensures same_files { S.files shelf.new ≡ S.files shelf.old }
-    // The line of a refusal.
-    ensures told { Tells (S.files shelf.old) (file_of (map (λ word. string_bytes word) words.now)) result
-        (E.written err.old) (E.written err.new) (E.faults err.old) (E.faults err.new) }
 {
     match file_name(words) {
         None => refuse(Fault::Usage, err),

@@ -1,28 +1,29 @@
 //! Reading a source: its tokens, and its statements one behind the other.
 
-ghost use Rattle.std.specs.Prelude.{◌<◌, ◌≤◌, [], length, IfErr, IfOk};
+ghost use Rattle.std.specs.Prelude.{◌≡◌, ◌<◌, ◌≤◌, ◌⊎◌, ℕ, length, IfErr, IfOk};
 ghost use Rattle.qasm_lex.specs.Cuts.{AreTokensOf};
+ghost use Rattle.qasm_parse.specs.Statements.{IsStatement, IsSyntaxFault};
 ghost use Rattle.qasm_parse.specs.Symbols.{lexemes_of};
-ghost use Rattle.qasm_scope.specs.Header.{IsHeader};
-ghost use Rattle.zac_flow.specs.Source.{AreAccepted, IsAccepted};
-ghost use Rattle.zac_flow.specs.Stages.{ExplainsReading, ExplainsStatement, ReadsStatement};
+ghost use Rattle.zac_flow.specs.Compiled.{IsReadAs, source_limit};
+ghost use Rattle.zac_flow.specs.Faults.{IsFaultOrWant};
+ghost use Rattle.zac_flow.specs.Source.{IsAcceptedTo};
 
 use crate::source_fault::Refusal;
 use crate::status::Fault;
-use qasm_lex::{Tokens, lex};
-use qasm_parse::statement;
-use qasm_scope::Scope;
+use qasm_lex::{LexFault, Tokens, lex};
+use qasm_parse::{Stmt, SyntaxFault, statement};
+use qasm_scope::{Scope, ScopeFault};
 use std::alloc::Global;
 
 /// The statements of a source of at most 4 MiB, where all of them are accepted and there is one at least. Else the fault
 /// names the first refusal: tokens are judged first, and then each statement in turn, its syntax before the rest. Beside the
 /// judgement of each statement, the time is in proportion to the bytes. Want of memory may come always.
 pub fn read_source(alloc: Global, source: &[u8]) -> Result<Scope, Fault>
-    requires { length source.now ≤ 4194304 }
-    ensures ok { IfOk result (λ program. IsAccepted source.now program) }
-    ensures err { IfErr result (ExplainsReading source.now) }
+    requires { length source.now ≤ source_limit }
+    ensures ok { IfOk result (λ program. IsReadAs source.now program) }
+    ensures fault { IfErr result (IsFaultOrWant source.now) }
 {
-    let tokens = lex(alloc, source)?;
+    let tokens = tokens_of(alloc, source)?;
     let scope = read_statements(alloc, source, &tokens)?;
     if scope.statements().is_empty() {
         return Err(Fault::Source {
@@ -33,12 +34,28 @@ pub fn read_source(alloc: Global, source: &[u8]) -> Result<Scope, Fault>
     Ok(scope)
 }
 
+/// The tokens of a source.
+fn tokens_of(alloc: Global, source: &[u8]) -> Result<Tokens, Fault>
+    requires { length source.now ≤ source_limit }
+    ensures ok { IfOk result (λ lexed. AreTokensOf source.now lexed) }
+    ensures fault { IfErr result (IsFaultOrWant source.now) }
+{
+    match lex(alloc, source) {
+        Ok(tokens) => Ok(tokens),
+        Err(LexFault::At { at }) => Err(Fault::Source {
+            kind: Refusal::Lex,
+            at,
+        }),
+        Err(LexFault::Memory) => Err(Fault::Memory),
+    }
+}
+
 /// The statements into which the tokens fall, where all of them are accepted.
 fn read_statements(alloc: Global, source: &[u8], tokens: &Tokens) -> Result<Scope, Fault>
+    requires short { length source.now ≤ source_limit }
     requires lexed { AreTokensOf source.now tokens.now }
-    ensures ok { IfOk result (λ program. IsHeader program.header
-        × AreAccepted program.header (lexemes_of source.now tokens.now.tokens) [] 0 program.statements (length tokens.now.tokens)) }
-    ensures err { IfErr result (ExplainsReading source.now) }
+    ensures ok { IfOk result (λ program. IsAcceptedTo source.now tokens.now program (length tokens.now.tokens)) }
+    ensures fault { IfErr result (IsFaultOrWant source.now) }
 {
     let count = tokens.all().len() as u32;
     let mut scope = Scope::new(alloc)?;
@@ -49,7 +66,7 @@ fn read_statements(alloc: Global, source: &[u8], tokens: &Tokens) -> Result<Scop
     Ok(scope)
 }
 
-/// Reads, judges and adds the statement at a place, and answers the place behind it.
+/// Reads, judges and adds the statement at a place behind accepted ones, and answers the place behind it.
 fn read_statement(
     alloc: Global,
     source: &[u8],
@@ -57,13 +74,53 @@ fn read_statement(
     place: u32,
     scope: &mut Scope,
 ) -> Result<u32, Fault>
-    requires lexed { AreTokensOf source.now tokens.now }
+    requires short { length source.now ≤ source_limit }
+    requires so_far { IsAcceptedTo source.now tokens.now scope.old place }
     requires place { place < length tokens.now.tokens }
-    ensures ok { IfOk result (ReadsStatement (lexemes_of source.now tokens.now.tokens) place scope.old scope.new) }
-    ensures err { IfErr result (ExplainsStatement (lexemes_of source.now tokens.now.tokens) place (length source.now) scope.old) }
+    ensures ok { IfOk result (λ next. IsAcceptedTo source.now tokens.now scope.new next) }
+    ensures within { IfOk result (λ next. (place < next) × (next ≤ length tokens.now.tokens)) }
+    ensures fault { IfErr result (IsFaultOrWant source.now) }
 {
-    let (statement, next) = statement(alloc, source, tokens, place)?;
+    let (statement, next) = statement_at(alloc, source, tokens, place)?;
     scope.check(&statement)?;
     scope.admit(statement)?;
     Ok(next)
+}
+
+/// The statement at a place, and the place behind it.
+fn statement_at(
+    alloc: Global,
+    source: &[u8],
+    tokens: &Tokens,
+    place: u32,
+) -> Result<(Stmt, u32), Fault>
+    requires lexed { AreTokensOf source.now tokens.now }
+    requires place { place < length tokens.now.tokens }
+    ensures ok { IfOk result (λ r. IsStatement (lexemes_of source.now tokens.now.tokens) place r.0 r.1) }
+    ensures fault { IfErr result (λ f. (f ≡ Fault.Memory) ⊎ ((at : ℕ) × (f ≡ Fault.Source Refusal.Syntax at)
+        × IsSyntaxFault (lexemes_of source.now tokens.now.tokens) place (length source.now) at)) }
+{
+    match statement(alloc, source, tokens, place) {
+        Ok(read) => Ok(read),
+        Err(SyntaxFault::At { at }) => Err(Fault::Source {
+            kind: Refusal::Syntax,
+            at,
+        }),
+        Err(SyntaxFault::Memory) => Err(Fault::Memory),
+    }
+}
+
+impl From<ScopeFault> for Fault {
+    ghost use Rattle.std.specs.Prelude.{◌≡◌};
+    ghost use Rattle.zac_flow.specs.declared.source_fault.Refusal.TheVariants as kind;
+    ghost use Rattle.zac_flow.specs.declared.status.Fault.TheVariants as fault;
+
+    ghost from_gives = { λ e f. f ≡ fault.Source (kind.Scope e.kind) e.at };
+
+    fn from(e: ScopeFault) -> Fault {
+        Fault::Source {
+            kind: Refusal::Scope { kind: e.kind },
+            at: e.at,
+        }
+    }
 }

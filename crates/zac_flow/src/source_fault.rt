@@ -21,7 +21,7 @@ impl Refusal {
     ghost use Rattle.zac_flow.specs.Kinds.{name_of};
 
     /// The name of the kind.
-    pub fn name(&self) -> &str
+    pub fn name(&self) -> &'static str
         ensures { result.now ≡ name_of self.now }
     {
         match self {

@@ -4,6 +4,7 @@ ghost use Rattle.std.specs.Prelude.{◌≡◌};
 
 use crate::source_fault::Refusal;
 use qasm_expand::LimitKind;
+use zac_gates::Memory;
 
 /// The status with which a command ends.
 #[derive(Clone, Copy, Debug, PartialEq, Eq)]
@@ -71,7 +72,7 @@ pub enum Fault {
 }
 
 impl Fault {
-    ghost use Rattle.zac_flow.specs.Ends.{status_of};
+    ghost use Rattle.zac_flow.specs.Faults.{status_of};
 
     /// The status of the refusal.
     pub fn status(&self) -> Status
@@ -87,5 +88,16 @@ impl Fault {
             Fault::Write => Status::WriteFault,
             Fault::Memory => Status::NoMemory,
         }
+    }
+}
+
+impl From<Memory> for Fault {
+    ghost use Rattle.std.specs.Prelude.{◌≡◌};
+    ghost use Rattle.zac_flow.specs.declared.status.Fault.TheVariants as fault;
+
+    ghost from_gives = { λ _ f. f ≡ fault.Memory };
+
+    fn from(_e: Memory) -> Fault {
+        Fault::Memory
     }
 }

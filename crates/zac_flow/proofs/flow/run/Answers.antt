@@ -1,41 +1,34 @@
-use Rattle.std.proofs.Common.{◌≡◌, ◌∙◌, Some, Err, map, string_bytes, rules}
-use Rattle.zac_io.specs.Outside.{Rose, Appends, AppendsPrefix}
-use Rattle.zac_flow.specs.Answers.{Explains, IsExact, WritesProgram}
-use Rattle.zac_flow.specs.Ends.{status_of, refusal_line}
-use Rattle.zac_flow.specs.Told.{HasShelfCause, HasSinkCause}
-use Rattle.zac_flow.specs.Words.{file_of}
+use Rattle.std.proofs.Common.{◌≡◌, ◌∙◌, ℕ, List, Option, Some, Result, Err, refl, sym, ap, subst, rules}
+use Rattle.zac_flow.specs.Answers.{WritesProgram, IsExact, RisesAt}
+use Rattle.zac_flow.specs.Faults.{Means, status_of}
+use Rattle.zac_flow.specs.declared.status.Fault.{Fault}
+use Rattle.zac_flow.specs.declared.status.Fault.TheVariants.{Usage, Read, Write}
 use Rattle.zac_flow.specs.declared.status.Status.TheVariants.{Done}
-use Rattle.zac_flow.proofs.Ending.{is_exact, refused_exact, refused_tells}
+use Rattle.zac_flow.proofs.Ending.{done_exact, refused_exact}
+use Rattle.zac_flow.proofs.Meaning.{read_alone, write_alone}
 use Rattle.zac_flow.proofs.flow.run.Goals as goal
 
+pub returns-in-None-clause-refused : goal.returns-in-None-clause-refused
+returns-in-None-clause-refused g c =
+    let at = c.refuse.ensures in
+    λ other. record { fault = Usage; status_is = at.status; means = sym c.in-None.ensures; leaves = refl; told = at.told }
+
 pub returns-in-Ok-clause-exact : goal.returns-in-Ok-clause-exact
-returns-in-Ok-clause-exact g c = λ calm_shelf calm_sink.
-    let wrote : WritesProgram (g.S.Shelf.files c.args.shelf.now) c.in-Some.name.now (g.K.Sink.written c.args.out.now) (g.K.Sink.written c.compile_file.new.out) = search rules in
-    let why : IsExact (g.S.Shelf.files c.args.shelf.now) (file_of (map (λ word. string_bytes word) c.args.words.now)) Done =
-    λ file text bytes deserved files_are name_is is d.
-    is_exact (g.S.Shelf.files c.args.shelf.now) (Some c.in-Some.name.now) (g.K.Sink.written c.args.out.now) (g.K.Sink.written c.compile_file.new.out) Done
-    wrote (λ e. cc) (λ e. cc) file text bytes deserved files_are (c.in-Some.ensures ∙ name_is) is d in
-    search (rules, why)
+returns-in-Ok-clause-exact g c =
+    let files = g.S.Shelf.files c.args.shelf.now in
+    let wrote : WritesProgram files (Some c.in-Some.name.now) (g.K.Sink.written c.args.out.now) (g.K.Sink.written c.compile_file.new.out) = search rules in
+    let P : Option (List ℕ) → Type 0 = λ n. IsExact files n Done in
+    λ calm_shelf calm_sink. subst P c.in-Some.ensures (done_exact files (Some c.in-Some.name.now) (g.K.Sink.written c.args.out.now) (g.K.Sink.written c.compile_file.new.out) wrote)
 
 pub returns-in-Err-clause-exact : goal.returns-in-Err-clause-exact
 returns-in-Err-clause-exact g c =
-    let same : c.refuse-in-Err.result ≡ status_of c.in-Err.fault = search rules in
-    let explains : Explains (g.S.Shelf.files c.args.shelf.now) c.in-Some.name.now (g.K.Sink.written c.args.out.now) (g.K.Sink.written c.compile_file.new.out) c.in-Err.fault = search rules in
-    let read : HasShelfCause (Err c.in-Err.fault) (g.S.Shelf.faults c.args.shelf.now) (g.S.Shelf.faults c.compile_file.new.shelf) = search rules in
-    let write : HasSinkCause (Err c.in-Err.fault) (g.K.Sink.faults c.args.out.now) (g.K.Sink.faults c.compile_file.new.out) = search rules in
-    λ calm_shelf calm_sink.
-    refused_exact (g.S.Shelf.files c.args.shelf.now) _ c.in-Some.name.now (g.K.Sink.written c.args.out.now) (g.K.Sink.written c.compile_file.new.out) c.in-Err.fault c.refuse-in-Err.result
-    c.in-Some.ensures same explains
-    (g.S.Shelf.faults c.args.shelf.now) (g.S.Shelf.faults c.compile_file.new.shelf) (g.K.Sink.faults c.args.out.now) (g.K.Sink.faults c.compile_file.new.out)
-    read write calm_shelf calm_sink
-
-pub returns-in-Err-clause-told : goal.returns-in-Err-clause-told
-returns-in-Err-clause-told g c =
-    let same : c.refuse-in-Err.result ≡ status_of c.in-Err.fault = search rules in
-    let explains : Explains (g.S.Shelf.files c.args.shelf.now) c.in-Some.name.now (g.K.Sink.written c.args.out.now) (g.K.Sink.written c.compile_file.new.out) c.in-Err.fault = search rules in
-    let told : AppendsPrefix (g.E.Sink.written c.args.err.now) (g.E.Sink.written c.refuse-in-Err.new.err) (refusal_line c.in-Err.fault) = search rules in
-    let whole : ¬ Rose (g.E.Sink.faults c.args.err.now) (g.E.Sink.faults c.refuse-in-Err.new.err) → Appends (g.E.Sink.written c.args.err.now) (g.E.Sink.written c.refuse-in-Err.new.err) (refusal_line c.in-Err.fault) = search rules in
-    refused_tells (g.S.Shelf.files c.args.shelf.now) _ c.in-Some.name.now (g.K.Sink.written c.args.out.now) (g.K.Sink.written c.compile_file.new.out) c.in-Err.fault c.refuse-in-Err.result
-    c.in-Some.ensures same explains
-    (g.E.Sink.written c.args.err.now) (g.E.Sink.written c.refuse-in-Err.new.err) (g.E.Sink.faults c.args.err.now) (g.E.Sink.faults c.refuse-in-Err.new.err)
-    told whole
+    let files = g.S.Shelf.files c.args.shelf.now in
+    let fault = c.in-Err.fault in
+    let same : c.refuse-in-Err.result ≡ status_of fault = search rules in
+    let means : Means files (Some c.in-Some.name.now) fault = search rules in
+    let reads : RisesAt {A = Result Unit Fault} (Err Read) (Err fault) (g.S.Shelf.faults c.args.shelf.now) (g.S.Shelf.faults c.compile_file.new.shelf) = search rules in
+    let writes : RisesAt {A = Result Unit Fault} (Err Write) (Err fault) (g.K.Sink.faults c.args.out.now) (g.K.Sink.faults c.compile_file.new.out) = search rules in
+    let P : Option (List ℕ) → Type 0 = λ n. IsExact files n c.refuse-in-Err.result in
+    λ calm_shelf calm_sink. subst P c.in-Some.ensures (refused_exact files (Some c.in-Some.name.now) fault c.refuse-in-Err.result same means
+    (λ e. calm_shelf (reads.rises (ap (λ (x : Fault). Err x) (read_alone fault (sym same ∙ e)))))
+    (λ e. calm_sink (writes.rises (ap (λ (x : Fault). Err x) (write_alone fault (sym same ∙ e))))))

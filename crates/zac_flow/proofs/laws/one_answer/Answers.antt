@@ -1,5 +1,5 @@
-use Rattle.zac_flow.proofs.OneRefusal.{refused_once}
-use Rattle.zac_flow.proofs.Reading.{accepted_once, accepted_or_refused}
+use Rattle.zac_flow.proofs.OneFault.{fault_once}
+use Rattle.zac_flow.proofs.Reading.{accepted_once, accepted_or_refused, refused_once}
 use Rattle.zac_flow.proofs.laws.one_answer.Goals as goal
 
 pub returns-clause-one_program : goal.returns-clause-one_program
@@ -10,3 +10,6 @@ returns-clause-one_refusal c = refused_once
 
 pub returns-clause-not_both : goal.returns-clause-not_both
 returns-clause-not_both c = λ source statements k at accepted refused. accepted_or_refused source statements accepted k at refused
+
+pub returns-clause-one_fault : goal.returns-clause-one_fault
+returns-clause-one_fault c = fault_once

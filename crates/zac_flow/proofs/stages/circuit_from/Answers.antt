@@ -1,12 +1,13 @@
-use Rattle.std.proofs.Common.{Err, ap, sym, subst}
-use Rattle.std.proofs.lemmas.Result.{err_from_is_err_and}
-use Rattle.zac_flow.specs.Stages.{ExplainsSource}
-use Rattle.zac_flow.specs.declared.status.Fault.{Fault}
-use Rattle.zac_flow.proofs.Explaining.{explains_expanding}
+use Rattle.std.proofs.Common.{inr, Err, ap, subst}
+use Rattle.qasm_names.specs.Accepted.{Program}
+use Rattle.qasm_expand.specs.Expansion.{PassesFirst}
 use Rattle.zac_flow.proofs.stages.circuit_from.Goals as goal
 
-pub returns-in_err-circuit-clause-err : goal.returns-in_err-circuit-clause-err
-returns-in_err-circuit-clause-err c =
-    let p = err_from_is_err_and c.from_residual-in_err-circuit.result c.from_residual-in_err-circuit.ensures.1 in
-    let why = explains_expanding c.args.source.now c.in_ok-scope.scope c.in_err-circuit.field-0.0 c.in_ok-scope.ensures.ok (λ k n same. c.in_err-circuit.ensures.limit k n (ap Err same)) in
-    rw p.1 (subst (λ (f : Fault). ExplainsSource c.args.source.now f) (sym p.2) why)
+pub returns-in-Err-Limit-clause-fault : goal.returns-in-Err-Limit-clause-fault
+returns-in-Err-Limit-clause-fault c =
+    let at = c.in-Err-Limit in
+    inr (
+      c.in_ok-scope.scope,
+      c.in_ok-scope.ensures.ok,
+      subst (λ (p : Program). PassesFirst p at.kind at.count) c.program.ensures (at.ensures.limit at.kind at.count (ap Err at.field-0-is)),
+    )

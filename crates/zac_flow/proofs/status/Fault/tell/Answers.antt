@@ -1,0 +1,4 @@
+use Rattle.zac_flow.proofs.status.Fault.tell.Goals as goal
+
+pub returns-in-Qubits-clause-line : goal.returns-in-Qubits-clause-line
+returns-in-Qubits-clause-line g c = rw c.in-Qubits.is c.tell_parts-in-Qubits.ensures.line
