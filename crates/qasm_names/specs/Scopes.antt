@@ -44,7 +44,7 @@ bound_targets e (s ∷ ss) = bound_target e s ∷ bound_targets (enter e s) ss
 
 -- The environment is that of the header and the statements; the header is that of its text, and each of its statements
 -- may stand there; none of the file's statements is refused; and the targets are those of its calls. It is the
--- invariant of a `Scope`.
+-- invariant of a `SourceProgram`.
 pub record IsScope (header : List Stmt) (now : Context) (targets : List Target) : Type 0 where
   pub means : now.environment ≡ environment header now.before
   pub is_header : IsHeader header

@@ -1,10 +1,11 @@
+-- Pairings of two sides: which end has which partner.
 use Rattle.std.specs.Prelude.{ℕ, ◌≡◌, List, Option, Some, None, slice_index_or, slice_set, sum_by}
 
--- The mate of a vertex in a list of mates, if it has one.
+-- The partner of an end, if it has one.
 abbrev pub mate : List (Option ℕ) → ℕ → Option ℕ
 mate mates k = slice_index_or mates k None
 
--- The mates of the left vertices and those of the right ones tell the same pairs.
+-- The partners of the left ends and those of the right ends tell the same pairs.
 pub record IsPairing (left right : List (Option ℕ)) : Type 0 where
   pub there : (u v : ℕ) → mate left u ≡ Some v → mate right v ≡ Some u
   pub back : (u v : ℕ) → mate right v ≡ Some u → mate left u ≡ Some v
@@ -14,7 +15,7 @@ abbrev pub freed : List (Option ℕ) → Option ℕ → List (Option ℕ)
 freed mates None = mates
 freed mates (Some k) = slice_set mates k None
 
--- 1 for no mate, and 0 for a mate.
+-- 1 for an end with no partner, and 0 for one with a partner.
 abbrev pub one_if_free : Option ℕ → ℕ
 one_if_free None = 1
 one_if_free (Some k) = 0

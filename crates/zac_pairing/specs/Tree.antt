@@ -1,3 +1,4 @@
+-- The tree of left ends that a search reaches.
 use Rattle.std.specs.Prelude.{ℕ, ◌≡◌, ◌≢◌, ◌<◌, ◌≤◌, List, Option, Some, None, Bool, true, IsSome, slice_index_or, length}
 use Rattle.zac_pairing.specs.Pairing.{mate}
 use Rattle.zac_pairing.specs.declared.tree.Step.{Step}
@@ -6,7 +7,7 @@ use Rattle.zac_pairing.specs.declared.tree.Step.{Step}
 abbrev pub no_step : Step
 no_step = record { left = 0; from = 0 }
 
--- The left vertex of the step at a place.
+-- The left end that the step at a place reached.
 abbrev pub left_at : List Step → ℕ → ℕ
 left_at steps k = (slice_index_or steps k no_step).left
 
@@ -14,8 +15,8 @@ left_at steps k = (slice_index_or steps k no_step).left
 abbrev pub from_at : List Step → ℕ → ℕ
 from_at steps k = (slice_index_or steps k no_step).from
 
--- The first n steps are a tree: there is a first one, whose vertex has no mate; the vertices are left ones and
--- distinct; each later step was reached from an earlier one.
+-- The first n steps are a tree: there is a first one, whose left end has no partner; the left ends are distinct; each
+-- later one has a partner and was reached from an earlier step.
 pub record IsTree (left : List (Option ℕ)) (steps : List Step) (n : ℕ) : Type 0 where
   pub some : 0 < n
   pub within : n ≤ length steps
@@ -25,10 +26,10 @@ pub record IsTree (left : List (Option ℕ)) (steps : List Step) (n : ℕ) : Typ
   pub earlier : (j : ℕ) → 0 < j → j < n → from_at steps j < j
   pub later : (j : ℕ) → 0 < j → j < n → IsSome (mate left (left_at steps j))
 
--- The test passes for the row from which each later row was reached, with that later row's own column.
+-- The test passes for the left end from which each later one was reached, with that later one's own partner.
 pub record HasPairs (test : ℕ → ℕ → Bool) (left : List (Option ℕ)) (steps : List Step) (n : ℕ) : Type 0 where
   pub each : (j v : ℕ) → 0 < j → j < n → mate left (left_at steps j) ≡ Some v → test (left_at steps (from_at steps j)) v ≡ true
 
--- The test passes for each row that has a column, with that column.
+-- The test passes for each left end that has a partner, with that partner.
 pub record AllPass (test : ℕ → ℕ → Bool) (left : List (Option ℕ)) : Type 0 where
   pub each : (u v : ℕ) → mate left u ≡ Some v → test u v ≡ true

@@ -20,7 +20,7 @@ use Rattle.zair_machine.specs.Result.{after}
 abbrev pub trap : ℕ → TrapId
 trap n = record { 0 = n }
 
--- On the small card, qubit 0 rests in trap 0 and qubit 1 in trap 1.
+-- On the tiny card, qubit 0 rests in trap 0 and qubit 1 in trap 1.
 abbrev pub start : State
 start = opening tiny_architecture (trap 0 ∷ trap 1 ∷ [])
 
@@ -115,7 +115,7 @@ cross_at_zero atoms = Activate 0 (beam 0 0 ∷ []) (beam 0 0 ∷ []) atoms
 abbrev pub carrying : Instr
 carrying = record { begin = 52000; end = 142453; act = Job 0 (catch_both ∷ carry_both ∷ drop_both 5 ∷ []) }
 
--- The small card with another gap and another pair distance.
+-- The tiny card with another gap and another pair distance.
 abbrev pub card_with : ℕ → ℕ → Architecture
 card_with gap pair = record {
   figures = record tiny_figures { gap = gap };

@@ -42,8 +42,8 @@ pub record IsSafeOrder (a : Architecture) (c : NativeCircuit) (program : List In
   pub realises : Realises c.ops (log_of steps)
 
 -- A program performs a circuit on a card. It has the form of a program; its homes are homes of the circuit's qubits;
--- each instruction takes as long as its steps; every order of its steps that the times allow is safe; the named order
--- is one of them; and instructions that conflict are apart.
+-- each instruction takes as long as its steps; the order of its list is safe, and so is every order of its steps that
+-- the times allow; the named order is one of these; and instructions that conflict are apart.
 pub record Performs (a : Architecture) (c : NativeCircuit) (program : List Instr) : Type 0 where
   pub form : IsTrue (is_program program)
   pub homes : AreHomes a c.qubits (homes program)
