@@ -9,3 +9,4 @@ pub mod CutLemmas
 pub mod LexLoop
 pub mod FrontExistence
 pub mod LexedLemmas
+mod Cutting

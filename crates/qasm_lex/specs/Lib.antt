@@ -5,3 +5,4 @@ pub mod Cuts
 pub mod Classes
 pub mod Numbers
 pub mod Fronts
+pub mod Cutting
