@@ -13,7 +13,8 @@ use Rattle.qasm_names.specs.declared.gate.Target.TheVariants as target
 use Rattle.qasm_names.specs.Bound.{NamesOneOf, TargetTakes, IsWellBoundCall, IsWellBound}
 use Rattle.qasm_expand.specs.AngleNodes.{IsOver, IsExprOver}
 use Rattle.qasm_expand.specs.Fit.{Suits}
-use Rattle.qasm_expand.specs.Top.{IsShort, AreShortIn, HaveShortNumbers}
+use Rattle.qasm_names.specs.Short.{IsShort, AreShortIn}
+use Rattle.qasm_expand.specs.Top.{HaveShortNumbers}
 use Rattle.qasm_expand.proofs.AdmissibleLemmas.{all_both}
 use Rattle.qasm_expand.proofs.SoundOps.{get_all}
 

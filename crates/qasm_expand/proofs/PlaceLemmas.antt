@@ -26,9 +26,8 @@ stmt_at xs own i x y same less is read =
     get_read own i x less (is ∙ ap (λ zs. get_or zs i x) same) ∙ ap (λ z. Some z) read
 
 -- its target
-pub target_read : (p : Program) (i j : ℕ) (call : BodyOp) (t : Target) → j ≡ i → Some t ≡ target_of (callee (environment p.header (take j p.statements)) call.name) → t ≡ target_in (environment p.header (take i p.statements)) call
-target_read p i j call t same is =
-    ap (λ o. value_or o target.Barrier) is ∙ ap (λ n. target_in (environment p.header (take n p.statements)) call) same
+pub target_read : (p : Program) (i : ℕ) (call : BodyOp) (t : Target) → Some t ≡ target_of (callee (environment p.header (take i p.statements)) call.name) → t ≡ target_in (environment p.header (take i p.statements)) call
+target_read p i call t is = ap (λ o. value_or o target.Barrier) is
 
 -- its visits
 pub call_visits : (p : Program) (i : ℕ) (call : BodyOp) (own : List Stmt) (t : Target) → own ≡ p.statements → t ≡ target_in (environment p.header (take i p.statements)) call → visits_of p.statements (target_in (environment p.header (take i p.statements)) call) call ≡ at_depth 1 (items_of (environment p.header (take i p.statements)) p.statements (stmt.Call call)) → slice_get p.statements i ≡ Some (stmt.Call call) → visits_of own t call ≡ visits_at p i

@@ -1,6 +1,7 @@
 -- What the calls of a statement that isn't refused bring to the walk.
-use Rattle.std.proofs.Common.{◌≡◌, ℕ, zero, suc, ◌+◌, ◌<◌, List, [], ◌∷◌, ◌++◌, length, take, drop, get_or, false, Option, Some, None, is_some, refl, ap, sym, ◌∙◌, subst, append_assoc, arith}
-use Rattle.std.proofs.lemmas.List.{append-nil, drop_more}
+use Rattle.std.proofs.Common.{◌≡◌, ℕ, zero, suc, ◌+◌, ◌<◌, List, [], ◌∷◌, ◌++◌, length, take, drop, map, Option, Some, None, refl, ap, sym, ◌∙◌, subst, append_assoc, arith}
+use Rattle.std.proofs.lemmas.List.{append-nil}
+use Rattle.std.specs.Option.{option_or}
 use Rattle.std.specs.List.{AllByRecursion, Any, Contains, slice_get, flat_map}
 use Rattle.qasm_parse.specs.declared.stmt.Arg.{Arg}
 use Rattle.qasm_parse.specs.declared.stmt.BodyOp.{BodyOp}
@@ -10,9 +11,9 @@ use Rattle.qasm_parse.specs.declared.stmt.Node.TheVariants as node
 use Rattle.qasm_parse.specs.declared.stmt.Stmt.{Stmt}
 use Rattle.qasm_parse.specs.declared.stmt.Stmt.TheVariants as stmt
 use Rattle.qasm_names.specs.declared.fault.ScopeKind.TheVariants as kind
-use Rattle.qasm_names.specs.declared.gate.Bound.{Bound}
+use Rattle.qasm_names.specs.declared.gate.GateDef.{GateDef}
 use Rattle.qasm_names.specs.Names.{Environment, qubit_size, value_or}
-use Rattle.qasm_names.specs.Environment.{environment}
+use Rattle.qasm_names.specs.Environment.{bound_call, bound_gate, enter, enter_all, environment, no_names, opening_names, words_of}
 use Rattle.qasm_names.specs.Applications.{applications, times_by}
 use Rattle.qasm_names.specs.Accepted.{IsAdmissible, AreAdmissible}
 use Rattle.qasm_names.specs.Refusals.{UsesOther, UsesOtherIn}
@@ -21,13 +22,13 @@ use Rattle.qasm_expand.specs.declared.kind.RegisterKind.{RegisterKind}
 use Rattle.qasm_expand.specs.declared.kind.RegisterKind.TheVariants as register
 use Rattle.qasm_expand.specs.declared.fault.LimitKind.TheVariants as limit
 use Rattle.qasm_expand.specs.AngleNodes.{IsOver, HasNoNames}
-use Rattle.qasm_expand.specs.Limits.{Passed, beyond, literal_of, literals_in, statement_literals, passed_by_literals}
+use Rattle.qasm_expand.specs.Limits.{beyond, literal_of, literals_in, statement_literals, passed_by_literals, passed_by_sizes, qubit_sizes, bit_sizes, passed_before_calls}
 use Rattle.qasm_expand.specs.RegisterKinds.{registers_in, registers_of}
 use Rattle.qasm_expand.specs.Sized.{sized}
-use Rattle.qasm_expand.specs.Top.{IsShort, AreShortIn, AreShortBodies}
+use Rattle.qasm_names.specs.Short.{IsShort, AreShortIn, HasShortNumbers}
+use Rattle.qasm_expand.specs.Top.{AreShortBodies, HaveShortNumbers}
 use Rattle.qasm_expand.proofs.BeforeLemmas.{both_none, not_beyond}
 use Rattle.qasm_expand.proofs.EnvironmentLemmas.{IsBare, size_declared}
-use Rattle.qasm_expand.proofs.ExtentLemmas.{none_from_test}
 use Rattle.qasm_expand.proofs.AdmissibleLemmas.{IsAdmissibleArg, any_head, any_tail}
 use Rattle.qasm_expand.proofs.LiteralsLemmas.{passed_by_literals-append}
 use Rattle.qasm_expand.proofs.SizedLemmas.{qubit_size-sized}
@@ -131,9 +132,54 @@ applications_same header pre suf (arg ∷ args) bare admissible =
     let size : qubit_size e arg.word ≡ qubit_size (sized ss) arg.word = admissible.0.is ∙ sym (size_declared register.Qubit header pre suf arg.word admissible.0.size bare admissible.0.is) ∙ sym (qubit_size-sized ss arg.word) in
     times_same e ss arg arg.index (applications e args) (applications (sized ss) args) (applications_same header pre suf args bare admissible.1) size
 
--- one more call of a body has short numbers
-pub short_more : (body : List Bound) (i : ℕ) (b : Bound) (passed : Option Passed) (exprs : List Expr) → i < length body → b ≡ get_or body i b → exprs ≡ b.exprs → passed ≡ passed_by_literals (literals_in exprs) → is_some passed ≡ false → (AreShortBodies (drop i body) → AreShortBodies body) → AreShortBodies (drop (i + 1) body) → AreShortBodies body
-short_more body i b passed exprs less is same found none before rest =
-    let short : AreShortIn b.exprs = short_exprs b.exprs (ap (λ (x : List Expr). passed_by_literals (literals_in x)) (sym same) ∙ sym found ∙ none_from_test passed none) in
-    let all : AreShortBodies (get_or body i b ∷ drop (i + 1) body) = (subst (λ (x : Bound). AreShortIn x.exprs) is short, rest) in
-    before (subst AreShortBodies (sym (drop_more body i b less)) all)
+-- numbers of statements that are short are short in the gates that these declare
+short_list : (ops : List BodyOp) → passed_by_literals (flat_map (λ (op : BodyOp). literals_in op.exprs) ops) ≡ None → AllByRecursion (λ (op : BodyOp). AreShortIn op.exprs) ops
+short_list [] h = tt
+short_list (op ∷ ops) h =
+    let others = flat_map (λ (o : BodyOp). literals_in o.exprs) ops in
+    let parts = both_none (passed_by_literals (literals_in op.exprs)) (passed_by_literals others) (sym (passed_by_literals-append (literals_in op.exprs) others) ∙ h) in
+    (short_exprs op.exprs parts.first, short_list ops parts.second)
+
+short_in : (s : Stmt) → passed_by_literals (statement_literals s) ≡ None → HasShortNumbers s
+short_in (stmt.Call call) h = (short_exprs call.exprs h, tt)
+short_in (stmt.Gate name params args body at) h = short_list body h
+short_in other h = tt
+
+short_all : (ss : List Stmt) → passed_by_literals (flat_map statement_literals ss) ≡ None → AllByRecursion HasShortNumbers ss
+short_all [] h = tt
+short_all (s ∷ ss) h =
+    let parts = both_none (passed_by_literals (statement_literals s)) (passed_by_literals (flat_map statement_literals ss)) (sym (passed_by_literals-append (statement_literals s) (flat_map statement_literals ss)) ∙ h) in
+    (short_in s parts.first, short_all ss parts.second)
+
+short_body : (e : Environment) (args : List (List ℕ)) (body : List BodyOp) → AllByRecursion (λ (op : BodyOp). AreShortIn op.exprs) body → AreShortBodies (map (bound_call e args) body)
+short_body e args [] h = tt
+short_body e args (op ∷ body) h = (h.0, short_body e args body h.1)
+
+short_push : (gates : List GateDef) (g : GateDef) → HaveShortNumbers gates → AreShortBodies g.body → HaveShortNumbers (gates ++ g ∷ [])
+short_push [] g h here = (here, tt)
+short_push (x ∷ gates) g h here = (h.0, short_push gates g h.1 here)
+
+short_enter : (e : Environment) (s : Stmt) → HaveShortNumbers e.gates → HasShortNumbers s → HaveShortNumbers (enter e s).gates
+short_enter e (stmt.Gate name params args body at) gates short =
+    short_push e.gates (bound_gate e params args body) gates (short_body e (words_of args) body short)
+short_enter e (stmt.Include name at) gates short = gates
+short_enter e (stmt.Qreg name size at) gates short = gates
+short_enter e (stmt.Creg name size at) gates short = gates
+short_enter e (stmt.Opaque name params args at) gates short = gates
+short_enter e (stmt.Version number at) gates short = gates
+short_enter e (stmt.Call call) gates short = gates
+short_enter e (stmt.Measure from into at) gates short = gates
+short_enter e (stmt.Reset arg at) gates short = gates
+short_enter e (stmt.Barrier args at) gates short = gates
+short_enter e (stmt.If at) gates short = gates
+
+short_enter_all : (e : Environment) (ss : List Stmt) → HaveShortNumbers e.gates → AllByRecursion HasShortNumbers ss → HaveShortNumbers (enter_all e ss).gates
+short_enter_all e [] gates short = gates
+short_enter_all e (s ∷ ss) gates short = short_enter_all (enter e s) ss (short_enter e s gates short.0) short.1
+
+-- no limit is passed before the calls, so the numbers of all gates are short
+pub short_gates : (header ss : List Stmt) → AllByRecursion HasShortNumbers header → passed_before_calls ss ≡ None → HaveShortNumbers (environment header ss).gates
+short_gates header ss short before =
+    let literals = passed_by_literals (flat_map statement_literals ss) in
+    let parts = both_none literals (option_or (passed_by_sizes limit.Qubits 4096 0 (flat_map qubit_sizes ss)) (passed_by_sizes limit.Bits 65536 0 (flat_map bit_sizes ss))) before in
+    short_enter_all (opening_names header) ss (short_enter_all no_names header tt short) (short_all ss parts.first)

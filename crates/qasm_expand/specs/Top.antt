@@ -1,11 +1,8 @@
 -- Inside: the calls of one statement, by the registers that the program's statements declare.
-use Rattle.std.specs.Prelude.{◌≡◌, ℕ, ◌≤◌, List, [], ◌∷◌, Option, Some, None, map, length, take, slice_get}
+use Rattle.std.specs.Prelude.{◌≡◌, ℕ, List, [], ◌∷◌, Option, Some, None, map, take, slice_get}
 use Rattle.std.specs.List.{AllByRecursion, flat_map, range_with_len}
 use Rattle.qasm_parse.specs.declared.stmt.Arg.{Arg}
 use Rattle.qasm_parse.specs.declared.stmt.BodyOp.{BodyOp}
-use Rattle.qasm_parse.specs.declared.stmt.Expr.{Expr}
-use Rattle.qasm_parse.specs.declared.stmt.Node.{Node}
-use Rattle.qasm_parse.specs.declared.stmt.Node.TheVariants as node
 use Rattle.qasm_parse.specs.declared.stmt.Stmt.{Stmt}
 use Rattle.qasm_names.specs.declared.gate.Bound.{Bound}
 use Rattle.qasm_names.specs.declared.gate.GateDef.{GateDef}
@@ -13,6 +10,7 @@ use Rattle.qasm_names.specs.declared.gate.Target.{Target}
 use Rattle.qasm_names.specs.Accepted.{Program}
 use Rattle.qasm_names.specs.Applications.{applications}
 use Rattle.qasm_names.specs.Environment.{environment}
+use Rattle.qasm_names.specs.Short.{AreShortIn}
 use Rattle.qasm_expand.specs.Calls.{Visit, at_depth}
 use Rattle.qasm_expand.specs.Items.{application, measurement, items_of}
 use Rattle.qasm_expand.specs.Expansion.{top_calls}
@@ -29,16 +27,7 @@ visits_of all t call = at_depth 1 (map (application all t call) (range_with_len 
 abbrev pub readings_of : List Stmt → Arg → Arg → List Visit
 readings_of all from into = at_depth 1 (map (measurement all from into) (range_with_len 0 (applications (sized all) (from ∷ []))))
 
--- A number has at most 40 bytes.
-abbrev pub IsShort : Node → Type 0
-IsShort (node.Number text) = length text ≤ 40
-IsShort other = Unit {0}
-
--- So has each number in these expressions.
-abbrev pub AreShortIn : List Expr → Type 0
-AreShortIn exprs = AllByRecursion (λ (expr : Expr). AllByRecursion IsShort expr) exprs
-
--- So has each number in the calls of a body.
+-- Each number in the calls of a body has at most 40 bytes.
 abbrev pub AreShortBodies : List Bound → Type 0
 AreShortBodies body = AllByRecursion (λ (b : Bound). AreShortIn b.exprs) body
 

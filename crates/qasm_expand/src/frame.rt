@@ -12,7 +12,7 @@ use zac_gates::{List, Memory};
 #[derive(Drop)]
 pub(crate) struct Frame {
     /// The place of the gate.
-    pub place: u32,
+    pub place: usize,
     /// The place in the body of the call that comes next.
     pub next: usize,
     /// The angles that the gate is called with.
@@ -25,14 +25,14 @@ pub(crate) struct Frame {
 pub(crate) fn qubits_at(
     alloc: Global,
     qubits: &[u32],
-    places: &[u32],
+    places: &[usize],
 ) -> Result<SmallVec<u32, 4>, Memory>
     requires { AllByRecursion (λ i. i < length qubits.now) places.now }
     ensures { IfOk result (λ chosen. chosen.items ≡ map (λ i. get_or qubits.now i 0) places.now) }
 {
     let mut chosen = SmallVec::new(alloc);
     for place in places {
-        chosen.push(qubits[*place as usize])?;
+        chosen.push(qubits[*place])?;
     }
     Ok(chosen)
 }

@@ -37,7 +37,7 @@ pub(crate) fn passed_in_nodes(nodes: &[Node]) -> Option<(LimitKind, u64)>
 }
 
 /// The first number that is too long, among these expressions.
-pub(crate) fn passed_in_exprs(exprs: &[Expr]) -> Option<(LimitKind, u64)>
+fn passed_in_exprs(exprs: &[Expr]) -> Option<(LimitKind, u64)>
     ensures { result ≡ passed_by_literals (literals_in exprs.now) }
 {
     for expr in exprs {

@@ -9,25 +9,22 @@ ghost use Rattle.qasm_expand.specs.declared.fault.LimitKind.{LimitKind};
 use crate::fault::ExpandFault;
 use crate::limit::refuse;
 use crate::registers::Registers;
-use crate::statement::{has_short_numbers, walk_all};
+use crate::statement::walk_all;
 use crate::sums::passed_before_calls;
-use qasm_names::SourceProgram;
+use qasm_names::{SourceProgram, gates_are_well_bound};
 use std::alloc::Global;
 use zac_gates::{Circuit, CircuitFault};
 
-/// The native list of a program. The header's numbers are short: where a type leaves that open, the answer is want of
-/// memory.
+/// The native list of a program.
 fn native(alloc: Global, program: &SourceProgram) -> Result<Circuit, ExpandFault>
     ensures within { IfOk result (λ _. IsWithinLimits program.now) }
     ensures expansion { IfOk result (IsExpansion program.now) }
     ensures few { IfOk result (λ c. (pairs_in c.ops ≤ 262144) × (length c.ops ≤ 786432)) }
     ensures err { IfErr result (TellsLimit program.now) }
 {
+    gates_are_well_bound();
     let statements = program.statements();
     refuse(passed_before_calls(statements))?;
-    if !has_short_numbers(program.gates()) {
-        return Err(ExpandFault::Memory);
-    }
     let registers = Registers::new(alloc, statements)?;
     let walk = walk_all(alloc, program, &registers)?;
     let circuit = Circuit::new(

@@ -1,47 +1,21 @@
 //! The calls of each statement of a program, one behind the other.
 
 ghost use Rattle.std.specs.Prelude.{◌≡◌, ◌<◌, [], None, Some, length, slice_get, IfOk, OnOk, IfErr};
-ghost use Rattle.std.specs.Bool.{OnTrue};
 ghost use Rattle.qasm_parse.specs.declared.stmt.Stmt.TheVariants as stmt;
 ghost use Rattle.qasm_names.specs.Accepted.{AreAdmissible};
 ghost use Rattle.qasm_names.specs.Environment.{environment};
 ghost use Rattle.qasm_names.specs.Scopes.{AreAdmissibleInHeader};
 ghost use Rattle.qasm_expand.specs.Limits.{passed_before_calls};
-ghost use Rattle.qasm_expand.specs.Top.{AreShortBodies, HaveShortNumbers, IsWalked, IsStopped, visits_at};
+ghost use Rattle.qasm_expand.specs.Top.{HaveShortNumbers, IsWalked, IsStopped, visits_at};
 ghost use Rattle.qasm_expand.specs.Walks.{Walks, Passes};
 
 use crate::fault::ExpandFault;
-use crate::literals::passed_in_exprs;
 use crate::registers::Registers;
 use crate::top::{apply_all, measure_all};
 use crate::walk::Walk;
-use qasm_names::{Bound, GateDef, SourceProgram};
+use qasm_names::SourceProgram;
 use qasm_parse::{BodyOp, Stmt};
 use std::alloc::Global;
-
-/// Whether the numbers in a body have at most 40 bytes each.
-fn has_short_body(body: &[Bound]) -> bool
-    ensures { OnTrue result (AreShortBodies body.now) }
-{
-    for call in body {
-        if passed_in_exprs(call.exprs.as_slice()).is_some() {
-            return false;
-        }
-    }
-    true
-}
-
-/// Whether the numbers in the bodies of all gates have at most 40 bytes each.
-pub(crate) fn has_short_numbers(gates: &[GateDef]) -> bool
-    ensures { OnTrue result (HaveShortNumbers gates.now) }
-{
-    for gate in gates {
-        if !has_short_body(gate.body.as_slice()) {
-            return false;
-        }
-    }
-    true
-}
 
 /// Visits the call that is the statement at a place, and all calls below it.
 fn visit_call(
@@ -63,11 +37,8 @@ fn visit_call(
     ensures err { IfErr result
         (Passes (environment program.now.header program.now.statements).gates walk.old (visits_at program.now place)) }
 {
-    let Ok(at) = u32::try_from(place) else {
-        return Err(ExpandFault::Memory);
-    };
     let gates = program.gates();
-    apply_all(walk, alloc, gates, program.target(at), call, registers)
+    apply_all(walk, alloc, gates, program.target(place), call, registers)
 }
 
 /// Visits the calls of the statement at a place, and all calls below them.

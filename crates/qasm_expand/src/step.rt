@@ -215,7 +215,7 @@ impl Walk {
         ensures err { IfErr result (IsFault (passed_by_calls self.old.calls self.old.nodes
             (take 1 (pending gates.now (frame ∷ reverse frames.old.items))))) }
     {
-        let gate = &gates[frame.place as usize];
+        let gate = &gates[frame.place];
         let body = gate.body.as_slice();
         let next = frame.next;
         if next < body.len() {

@@ -114,6 +114,10 @@ cut_into (suc n) (b ∷ bytes) pieces is =
       by_front (Some f) fits go is =
           by_rest f fits (cut n (drop f.length (b ∷ bytes))) (go (drop f.length (b ∷ bytes))) is
 
--- the pieces that are answered are those of a source
+-- the pieces that are answered are the text of a source
+pub cut_text : (n : ℕ) (source : List ℕ) (pieces : List Piece) → cut n source ≡ Some pieces → source ≡ flat_map piece_text pieces
+cut_text n source pieces is = (cut_into n source pieces is).0
+
+-- the pieces that are answered give its tokens
 pub cut_tokens : (n : ℕ) (source : List ℕ) (pieces : List Piece) → cut n source ≡ Some pieces → AreTokensOf source (record { tokens = tokens_of 0 pieces; source_length = length source })
 cut_tokens n source pieces is = let into = cut_into n source pieces is in (pieces, into.0, into.1, refl, refl)

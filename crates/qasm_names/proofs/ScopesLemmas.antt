@@ -1,5 +1,5 @@
 -- Lemmas on statements behind one another.
-use Rattle.std.proofs.Common.{get_or, ◌≡◌, ◌≢◌, ℕ, zero, suc, inl, List, [], ◌∷◌, ◌++◌, take, slice_get, Option, Some, None, is_some, refl, ap, sym, subst, ◌∙◌, append_assoc, append-nil, lit<}
+use Rattle.std.proofs.Common.{get_or, ◌≡◌, ◌≢◌, ℕ, zero, suc, inl, List, [], ◌∷◌, ◌++◌, take, slice_get, Option, Some, None, refl, ap, sym, subst, ◌∙◌, append_assoc, append-nil, lit<}
 use Rattle.qasm_parse.specs.declared.stmt.BodyOp.{BodyOp}
 use Rattle.qasm_parse.specs.declared.stmt.Stmt.{Stmt}
 use Rattle.qasm_parse.specs.declared.stmt.Stmt.TheVariants as stmt
@@ -115,7 +115,7 @@ pub IsScope-push : (header : List Stmt) (now : Context) (targets : List Target) 
 IsScope-push header now targets s h admissible = record {
   means = ap (λ e. enter e s) h.means ∙ sym (after-push (opening_names header) now.before s);
   is_header = h.is_header;
-  header_admissible = h.header_admissible;
+  sound = h.sound;
   admissible = AreAdmissible-push header [] now.before s h.admissible admissible;
   bound = ap (λ l. l ++ bound_target now.environment s ∷ []) h.bound ∙ ap (λ e. bound_targets (opening_names header) now.before ++ bound_target e s ∷ []) h.means ∙ sym (bound_targets-push (opening_names header) now.before s);
 }

@@ -4,6 +4,7 @@ pub mod Environment
 pub mod Header
 pub mod Applications
 pub mod Refusals
+pub mod Short
 pub mod Accepted
 pub mod Reads
 pub mod Registers

@@ -1,6 +1,6 @@
 //! What the calls of a gate's body are bound to.
 
-ghost use Rattle.std.specs.Prelude.{◌≡◌, ◌<◌, ◌^◌, List, length, map, IfOk};
+ghost use Rattle.std.specs.Prelude.{◌≡◌, List, length, map, IfOk};
 ghost use Rattle.qasm_names.specs.Environment.{bound_call, bound_gate};
 ghost use Rattle.qasm_names.specs.Names.{target_of, value_or};
 ghost use Rattle.qasm_names.specs.declared.gate.Target.TheVariants as target;
@@ -54,7 +54,7 @@ fn bound_body(
     Ok(List::of(bound))
 }
 
-/// A gate with a body, of fewer than 2^32 arguments.
+/// A gate with a body.
 pub(crate) fn bound_gate(
     alloc: Global,
     known: &Known,
@@ -62,10 +62,9 @@ pub(crate) fn bound_gate(
     args: &[Named],
     body: &[BodyOp],
 ) -> Result<GateDef, Memory>
-    requires { length args.now < 2 ^ 32 }
     ensures { IfOk result (λ gate. gate ≡ bound_gate known.now params.now args.now body.now) }
 {
-    let count = args.len() as u32;
+    let count = args.len();
     let params = copy_words(alloc, params)?;
     let places = Places::of(alloc, args)?;
     let body = bound_body(alloc, known, &places, body)?;

@@ -15,7 +15,7 @@ pub enum Target {
     /// A barrier in a body.
     Barrier,
     /// The gate at this place among the gates with a body.
-    Gate { place: u32 },
+    Gate { place: usize },
 }
 
 /// A call in a body, with its angles over the gate's parameters and its arguments by their places among the gate's.
@@ -26,7 +26,7 @@ pub struct Bound {
     /// Its angles.
     pub exprs: List<Expr>,
     /// The places of its arguments among the arguments of the gate.
-    pub args: List<u32>,
+    pub args: List<usize>,
 }
 
 /// A gate with a body.
@@ -35,7 +35,7 @@ pub struct GateDef {
     /// The names of its parameters.
     pub params: List<Bytes>,
     /// The number of its arguments.
-    pub args: u32,
+    pub args: usize,
     /// Its body.
     pub body: List<Bound>,
 }

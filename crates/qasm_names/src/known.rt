@@ -62,9 +62,7 @@ impl Known {
     }
 
     /// What holds behind a statement, which declares no name that the file has declared.
-    ///
-    /// Without memory nothing changes. Memory is wanted too where a gate has 2^32 parameters or arguments, or stands
-    /// behind 2^32 gates.
+    /// Without memory nothing changes.
     pub(crate) fn enter(&mut self, stmt: &Stmt) -> Result<(), Memory>
         requires { DeclaresNew self.old stmt.now }
         ensures ok { OnOk result (self.new ≡ enter self.old stmt.now) }
@@ -127,9 +125,7 @@ impl Known {
         ensures ok { OnOk result (self.new ≡ with_gate self.old name.now params.now args.now body.now) }
         ensures err { OnErr result (self.new ≡ self.old) }
     {
-        let place = u32::try_from(self.gates.len()).map_err(|_| Memory)?;
-        let parameters = u32::try_from(params.len()).map_err(|_| Memory)?;
-        let arguments = u32::try_from(args.len()).map_err(|_| Memory)?;
+        let place = self.gates.len();
         let gate = bound_gate(self.alloc, self, params, args, body)?;
         let name = name.to_vec(self.alloc)?;
         self.gates.reserve(1)?;
@@ -137,8 +133,8 @@ impl Known {
             name,
             Meaning::Gate {
                 place,
-                params: parameters,
-                args: arguments,
+                params: params.len(),
+                args: args.len(),
             },
         )?;
         self.gates.push(gate).unwrap();

@@ -6,13 +6,21 @@ use crate::gate::Target;
 #[derive(Clone, Copy)]
 pub enum Meaning {
     /// A register of so many qubits.
-    Qubits { size: u64 },
+    Qubits {
+        size: u64,
+    },
     /// A register of so many bits.
-    Bits { size: u64 },
+    Bits {
+        size: u64,
+    },
     /// The gate without a body that is performed as one CZ.
     Native,
     /// The gate at this place among those with a body, with the numbers of its parameters and arguments.
-    Gate { place: u32, params: u32, args: u32 },
+    Gate {
+        place: usize,
+        params: usize,
+        args: usize,
+    },
     /// A gate that is declared without a body.
     Opaque,
 }
@@ -29,7 +37,7 @@ pub enum Callee {
     /// A gate: what a call of it is bound to, with the numbers of its angles and arguments.
     Gate {
         target: Target,
-        params: u32,
-        args: u32,
+        params: usize,
+        args: usize,
     },
 }

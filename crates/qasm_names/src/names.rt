@@ -68,10 +68,7 @@ impl Names {
         }
     }
 
-    /// Enters a statement behind those before it, where it isn't refused.
-    ///
-    /// Without memory nothing changes. Memory is wanted too where a gate has 2^32 parameters or arguments, or stands
-    /// behind 2^32 gates.
+    /// Enters a statement behind those before it, where it isn't refused. Without memory nothing changes.
     pub fn enter(&mut self, stmt: Stmt) -> Result<(), Memory>
         requires { (k : ScopeKind) (at : ℕ) → ¬ Refuses self.old.environment self.old.before stmt k at }
         ensures ok { OnOk result (self.new ≡ behind self.old stmt) }

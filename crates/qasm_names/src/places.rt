@@ -6,24 +6,22 @@ use std::alloc::Global;
 use std::marker::Model;
 use zac_gates::{Bytes, List, Memory};
 
-/// The names of a gate's arguments, which are fewer than 2^32. Contracts see the list of their words.
+/// The names of a gate's arguments. Contracts see the list of their words.
 #[derive(Drop)]
 pub(crate) struct Places {
     words: List<Bytes>,
 }
 
 impl Model for Places {
-    ghost use Rattle.std.specs.Prelude.{ℕ, ◌<◌, ◌^◌, List, length};
+    ghost use Rattle.std.specs.Prelude.{ℕ, List};
 
     ghost Value = { List (List ℕ) };
 
     ghost view = { λ p. p.words };
-
-    ghost invariant = { λ p. length p.words < 2 ^ 32 };
 }
 
 impl Places {
-    ghost use Rattle.std.specs.Prelude.{◌≡◌, ◌<◌, ◌^◌, length, map, IfOk};
+    ghost use Rattle.std.specs.Prelude.{◌≡◌, map, IfOk};
     ghost use Rattle.std.specs.List.{position_or_len};
     ghost use Rattle.std.specs.Str.{bytes_eq};
     ghost use Rattle.qasm_parse.specs.declared.stmt.Arg.{Arg};
@@ -31,7 +29,6 @@ impl Places {
 
     /// The arguments of a gate.
     pub(crate) fn of(alloc: Global, names: &[Named]) -> Result<Places, Memory>
-        requires { length names.now < 2 ^ 32 }
         ensures { IfOk result (λ places. places ≡ words_of names.now) }
     {
         let words = copy_words(alloc, names)?;
@@ -39,20 +36,20 @@ impl Places {
     }
 
     /// The place of a word, or the number of the arguments where it isn't there.
-    fn place(&self, word: &[u8]) -> u32
+    fn place(&self, word: &[u8]) -> usize
         ensures { result ≡ position_or_len (bytes_eq word.now) self.now }
     {
         let words = self.words.as_slice();
         for (place, other) in words.iter().enumerate() {
             if word == other.as_slice() {
-                return place as u32;
+                return place;
             }
         }
-        words.len() as u32
+        words.len()
     }
 
     /// The places of a call's arguments.
-    pub(crate) fn all(&self, alloc: Global, args: &[Arg]) -> Result<List<u32>, Memory>
+    pub(crate) fn all(&self, alloc: Global, args: &[Arg]) -> Result<List<usize>, Memory>
         ensures { IfOk result (λ places. places ≡ map (λ (arg : Arg). position_or_len (bytes_eq arg.word) self.now) args.now) }
     {
         let mut places = Vec::new(alloc);

@@ -30,22 +30,21 @@ impl Model for SourceProgram {
 }
 
 impl SourceProgram {
-    ghost use Rattle.std.specs.Prelude.{◌≡◌, ℕ, [], ◌∷◌, ◌++◌, None, Some, codes, take, slice_get, IfOk, OnOk, OnErr};
+    ghost use Rattle.std.specs.Prelude.{◌≡◌, ℕ, [], ◌∷◌, ◌++◌, Some, take, slice_get, IfOk, OnOk, OnErr};
     ghost use Rattle.qasm_parse.specs.declared.stmt.BodyOp.{BodyOp};
     ghost use Rattle.qasm_parse.specs.declared.stmt.Stmt.TheVariants as stmt;
     ghost use Rattle.qasm_names.specs.Accepted.{AreAdmissible, IsAdmissible};
     ghost use Rattle.qasm_names.specs.Bound.{IsWellBound};
     ghost use Rattle.qasm_names.specs.Environment.{enter_all, environment, no_names};
     ghost use Rattle.qasm_names.specs.Header.{IsHeader};
-    ghost use Rattle.qasm_names.specs.Names.{callee, own_meaning, target_of};
-    ghost use Rattle.qasm_names.specs.Scopes.{AreAdmissibleInHeader};
+    ghost use Rattle.qasm_names.specs.Names.{callee, target_of};
+    ghost use Rattle.qasm_names.specs.Scopes.{IsSoundHeader};
 
     /// No statements, behind these, which are the header's.
     pub fn behind(header: Names) -> Result<SourceProgram, Memory>
         requires header { IsHeader header.before }
-        requires admissible { AreAdmissibleInHeader [] header.before }
+        requires sound { IsSoundHeader header.before }
         requires means { header.environment ≡ enter_all no_names header.before }
-        requires undeclared { own_meaning header.environment (codes "cz") ≡ None }
         ensures { IfOk result (λ program. program ≡ record { header = header.before; statements = [] }) }
     {
         let alloc = header.alloc();
@@ -57,8 +56,7 @@ impl SourceProgram {
         })
     }
 
-    /// Admits a statement that isn't refused. Without memory nothing changes. Memory is wanted too where a gate has 2^32
-    /// parameters or arguments, or stands behind 2^32 gates.
+    /// Admits a statement that isn't refused. Without memory nothing changes.
     pub fn admit(&mut self, stmt: Stmt) -> Result<(), Memory>
         requires { IsAdmissible self.old.header self.old.statements stmt }
         ensures ok { OnOk result (self.new ≡ record { header = self.old.header; statements = self.old.statements ++ stmt ∷ [] }) }
@@ -85,7 +83,7 @@ impl SourceProgram {
     pub fn statements(&self) -> &[Stmt]
         ensures list { result.now ≡ self.now.statements }
         ensures header { IsHeader self.now.header }
-        ensures header_admissible { AreAdmissibleInHeader [] self.now.header }
+        ensures sound { IsSoundHeader self.now.header }
         ensures admissible { AreAdmissible self.now.header [] self.now.statements }
     {
         self.names.statements()
@@ -101,12 +99,12 @@ impl SourceProgram {
     }
 
     /// What the call at a place of the statements is bound to. A call stands there.
-    pub fn target(&self, place: u32) -> Target
+    pub fn target(&self, place: usize) -> Target
         requires { (call : BodyOp) × (slice_get self.now.statements place ≡ Some (stmt.Call call)) }
         ensures { (call : BodyOp) → slice_get self.now.statements place ≡ Some (stmt.Call call)
             → Some result ≡ target_of (callee (environment self.now.header (take place self.now.statements)) call.name) }
     {
-        self.targets[place as usize]
+        self.targets[place]
     }
 }
 

@@ -1,7 +1,7 @@
 -- What the answer about a statement says, in both directions.
 use Rattle.std.proofs.Common.{◌≡◌, ℕ, zero, suc, ◌+◌, ◌-◌, ◌<◌, ◌≤◌, List, [], ◌∷◌, ◌++◌, length, take, drop, Result, Ok, Err, ◌⊎◌, refl, sym as flip, ◌∙◌, ap, subst, inl, inr, arith, append_assoc, length-append, length-drop, length-take-le}
 use Rattle.std.specs.Prelude.{IfOk, IsErrOf}
-use Rattle.std.proofs.lemmas.List.{append-nil, take_at, take-append-drop, take_rest}
+use Rattle.std.proofs.lemmas.List.{append-nil, take_at, drop_at, drop-drop, take-append-drop, take_rest}
 use Rattle.qasm_lex.specs.declared.token.Token.{Token}
 use Rattle.qasm_lex.specs.Lexed.{AreInOrder}
 use Rattle.qasm_parse.specs.declared.stmt.Stmt.{Stmt}
@@ -44,6 +44,14 @@ answer_ok tokens from end s left next within is total =
       within = omega (arith, total);
       derived = subst (λ t. StatementAt from t s) (flip (ap (take (next - from)) h.1 ∙ take_at h.0 left (next - from) size)) h.2;
     }
+
+-- what is left behind a statement are the tokens from the next place on
+pub left_at : (tokens : List Lexeme) (from end : ℕ) (s : Stmt) (left : List Lexeme) (next : ℕ) → from ≤ length tokens → reading_at from end (drop from tokens) ≡ Ok (s, left) → next + length left ≡ length tokens → drop next tokens ≡ left
+left_at tokens from end s left next within is total =
+    let h = subst (Agrees (StatementAt from) end (drop from tokens)) is ((decides_at from end).right (drop from tokens)) in
+    let lengths : length tokens - from ≡ length h.0 + length left = flip (length-drop from tokens) ∙ ap length h.1 ∙ length-append h.0 left in
+    let place : next ≡ from + length h.0 = omega (arith, lengths, total, within) in
+    ap (λ n. drop n tokens) place ∙ flip (drop-drop (length h.0) from tokens) ∙ ap (drop (length h.0)) h.1 ∙ drop_at h.0 left (length h.0) refl
 
 pub answer_err : (tokens : List Lexeme) (from end at : ℕ) → reading_at from end (drop from tokens) ≡ Err at → IsSyntaxFault tokens from end at
 answer_err tokens from end at is =

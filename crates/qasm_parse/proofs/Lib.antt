@@ -17,3 +17,4 @@ pub mod NumberLemmas
 pub mod TokenLemmas
 pub mod LeftLemmas
 pub mod NumberBytes
+pub mod Computed

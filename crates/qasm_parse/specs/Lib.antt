@@ -12,3 +12,4 @@ pub mod Bodies
 pub mod Statements
 pub mod Postfix
 pub mod Numbers
+pub mod Computing

@@ -4,12 +4,17 @@
 ghost use Rattle.std.specs.Prelude.{◌≡◌, ◌⊎◌, ℕ, ◌<◌, List, Some, length, slice_get, IsTrue};
 ghost use Rattle.std.specs.List.{AllByRecursion, list_all};
 ghost use Rattle.zac_gates.specs.Angle.{is_angle_byte};
+ghost use Rattle.qasm_lex.specs.Cuts.{AreTokensOf};
+ghost use Rattle.qasm_lex.specs.Lexed.{Lexed};
 ghost use Rattle.qasm_lex.specs.declared.token.Token.{Token};
+ghost use Rattle.qasm_parse.specs.Computing.{computed_statements};
 ghost use Rattle.qasm_parse.specs.declared.stmt.Node.{Node};
 ghost use Rattle.qasm_parse.specs.declared.stmt.Stmt.{Stmt};
 ghost use Rattle.qasm_parse.specs.Numbers.{HasNumber, IsNumber};
 ghost use Rattle.qasm_parse.specs.Statements.{FallInto, IsStatement, IsSyntaxFault};
 ghost use Rattle.qasm_parse.specs.Symbols.{Lexeme, lexemes_of};
+
+use qasm_lex::laws::cut_gives_tokens;
 
 /// At a place among tokens one statement stands, with one place behind it, or one fault does, and never both.
 pub fn statement_or_one_fault()
@@ -44,3 +49,11 @@ pub fn each_node_has_its_number()
     ensures { (nodes : List Node) (k : ℕ) (node : Node) → AllByRecursion HasNumber nodes
         → slice_get nodes k ≡ Some node → HasNumber node }
 {}
+
+/// The statements that a proof computes of a source are those into which its tokens fall.
+pub fn computed_statements_stand()
+    ensures { (n : ℕ) (source : List ℕ) (ss : List Stmt) → computed_statements n source ≡ Some ss
+        → (lexed : Lexed) × AreTokensOf source lexed × FallInto (lexemes_of source lexed.tokens) 0 ss (length lexed.tokens) }
+{
+    cut_gives_tokens();
+}

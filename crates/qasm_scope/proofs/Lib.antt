@@ -5,3 +5,5 @@ pub mod WordLemmas
 pub mod ApplicationsLemmas
 pub mod JudgedLemmas
 pub mod HeaderReadingLemmas
+pub mod FineLemmas
+pub mod HeaderLaws

@@ -1,3 +1,4 @@
 pub mod Least
 pub mod Judged
 pub mod HeaderReading
+pub mod FineHeader

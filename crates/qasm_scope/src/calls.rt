@@ -30,7 +30,7 @@ fn has_other_params(callee: Callee, call: &BodyOp) -> bool
     ensures { IsTrue result ↔ HasOtherParams callee call.now }
 {
     match callee {
-        Callee::Gate { params, .. } => call.exprs.as_slice().len() != params as usize,
+        Callee::Gate { params, .. } => call.exprs.as_slice().len() != params,
         _ => false,
     }
 }
@@ -40,7 +40,7 @@ fn has_other_arity(callee: Callee, call: &BodyOp) -> bool
     ensures { IsTrue result ↔ HasOtherArity callee call.now }
 {
     match callee {
-        Callee::Gate { args, .. } => call.args.as_slice().len() != args as usize,
+        Callee::Gate { args, .. } => call.args.as_slice().len() != args,
         _ => false,
     }
 }

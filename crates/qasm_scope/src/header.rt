@@ -1,20 +1,19 @@
 //! The header that an include of `qelib1.inc` stands for.
 
-ghost use Rattle.std.specs.Prelude.{◌≡◌, ◌<◌, [], IsTrue, ◌↔◌, None, codes, length, IfOk, OnOk};
+ghost use Rattle.std.specs.Prelude.{◌≡◌, ℕ, ◌<◌, length, IfOk};
 ghost use Rattle.qasm_lex.specs.Cuts.{AreTokensOf};
 ghost use Rattle.qasm_parse.specs.Statements.{IsStatement};
 ghost use Rattle.qasm_parse.specs.Symbols.{lexemes_of};
-ghost use Rattle.qasm_names.specs.Accepted.{behind};
-ghost use Rattle.qasm_names.specs.Header.{IsHeader, header_text};
-ghost use Rattle.qasm_names.specs.Names.{own_meaning};
-ghost use Rattle.qasm_names.specs.Scopes.{AreAdmissibleInHeader, IsAdmissibleInHeader, IsVersionOrGate};
-ghost use Rattle.qasm_scope.specs.HeaderReading.{IsReadHeader};
+ghost use Rattle.qasm_parse.specs.declared.stmt.Stmt.{Stmt};
 ghost use Rattle.qasm_names.specs.Environment.{enter_all, no_names};
+ghost use Rattle.qasm_names.specs.Header.{IsHeader, header_text};
 
-use crate::judge::refusal_of;
-use qasm_lex::{Tokens, lex};
+use crate::laws::one_header;
+use qasm_lex::laws::tokens_or_one_fault;
+use qasm_lex::{LexFault, Tokens, lex};
 use qasm_names::Names;
-use qasm_parse::{Stmt, statement};
+use qasm_parse::laws::statement_or_one_fault;
+use qasm_parse::{Stmt, SyntaxFault, statement};
 use std::alloc::Global;
 use zac_gates::Memory;
 
@@ -61,26 +60,7 @@ pub fn header_text() -> &'static [u8]
     TEXT
 }
 
-/// Whether a statement is the version, or a gate with a body.
-fn is_version_or_gate(stmt: &Stmt) -> bool
-    ensures { IsTrue result ↔ IsVersionOrGate stmt.now }
-{
-    matches!(stmt, Stmt::Version { .. } | Stmt::Gate { .. })
-}
-
-/// Enters a statement of the header. The header's own statements are never refused: where a type leaves that open, the
-/// answer is want of memory.
-fn enter_judged(names: &mut Names, stmt: Stmt) -> Result<(), Memory>
-    ensures entered { OnOk result (names.new ≡ behind names.old stmt) }
-    ensures admissible { OnOk result (names.old.environment ≡ enter_all no_names names.old.before → IsAdmissibleInHeader names.old.before stmt) }
-{
-    if !is_version_or_gate(&stmt) || refusal_of(names, &stmt).is_some() {
-        return Err(Memory);
-    }
-    names.enter(stmt)
-}
-
-/// The statement of the header at a place, and the place behind it.
+/// The statement of the header at a place, and the place behind it. One stands there.
 fn statement_of(
     alloc: Global,
     source: &[u8],
@@ -89,24 +69,33 @@ fn statement_of(
 ) -> Result<(Stmt, u32), Memory>
     requires lexed { AreTokensOf source.now tokens.now }
     requires place { place < length tokens.now.tokens }
+    requires stands { (s : Stmt) × (next : ℕ) × IsStatement (lexemes_of source.now tokens.now.tokens) place s next }
     ensures { IfOk result (λ r. IsStatement (lexemes_of source.now tokens.now.tokens) place r.0 r.1) }
 {
     match statement(alloc, source, tokens, place) {
         Ok(read) => Ok(read),
-        Err(_) => Err(Memory),
+        Err(fault) => match fault {
+            SyntaxFault::Memory => Err(Memory),
+            SyntaxFault::At { .. } => unreachable!(),
+        },
     }
 }
 
 /// The header's statements, entered one behind the other.
 fn read_statements(alloc: Global, source: &[u8], tokens: &Tokens) -> Result<Names, Memory>
-    requires { AreTokensOf source.now tokens.now }
-    ensures { IfOk result (IsReadHeader (lexemes_of source.now tokens.now.tokens) (length tokens.now.tokens)) }
+    requires text { source.now ≡ header_text }
+    requires lexed { AreTokensOf source.now tokens.now }
+    ensures is_header { IfOk result (λ names. IsHeader names.before) }
+    ensures means { IfOk result (λ names. names.environment ≡ enter_all no_names names.before) }
 {
+    one_header();
+    tokens_or_one_fault();
+    statement_or_one_fault();
     let mut names = Names::new(alloc);
     let mut place: u32 = 0;
     while (place as usize) < tokens.all().len() {
         let (stmt, next) = statement_of(alloc, source, tokens, place)?;
-        enter_judged(&mut names, stmt)?;
+        names.enter(stmt)?;
         place = next;
     }
     Ok(names)
@@ -114,18 +103,16 @@ fn read_statements(alloc: Global, source: &[u8], tokens: &Tokens) -> Result<Name
 
 /// The header's statements, with what names stand for behind them. `cz` isn't among the names.
 pub(crate) fn read_header(alloc: Global) -> Result<Names, Memory>
-    ensures is_header { IfOk result (λ r. IsHeader r.before) }
-    ensures admissible { IfOk result (λ r. AreAdmissibleInHeader [] r.before) }
-    ensures means { IfOk result (λ r. r.environment ≡ enter_all no_names r.before) }
-    ensures undeclared { IfOk result (λ r. own_meaning r.environment (codes "cz") ≡ None) }
+    ensures is_header { IfOk result (λ names. IsHeader names.before) }
+    ensures means { IfOk result (λ names. names.environment ≡ enter_all no_names names.before) }
 {
+    one_header();
     let source = header_text();
-    let Ok(tokens) = lex(alloc, source) else {
-        return Err(Memory);
-    };
-    let names = read_statements(alloc, source, &tokens)?;
-    if names.known().has_own(b"cz".as_slice()) {
-        return Err(Memory);
+    match lex(alloc, source) {
+        Ok(tokens) => read_statements(alloc, source, &tokens),
+        Err(fault) => match fault {
+            LexFault::Memory => Err(Memory),
+            LexFault::At { .. } => unreachable!(),
+        },
     }
-    Ok(names)
 }

@@ -8,6 +8,7 @@ mod calls;
 pub mod header;
 mod judge;
 mod kinds;
+pub mod laws;
 mod least;
 mod pairs;
 mod parts;

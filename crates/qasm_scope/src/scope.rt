@@ -2,6 +2,7 @@
 
 use crate::header::read_header;
 use crate::judge::refusal_of;
+use crate::laws::one_header;
 use qasm_names::{GateDef, ScopeFault, SourceProgram, Target};
 use qasm_parse::Stmt;
 use std::alloc::Global;
@@ -33,12 +34,14 @@ impl Scope {
     ghost use Rattle.qasm_names.specs.Header.{IsHeader};
     ghost use Rattle.qasm_names.specs.Names.{callee, target_of};
     ghost use Rattle.qasm_names.specs.Refusals.{IsFirstRefusal};
-    ghost use Rattle.qasm_names.specs.Scopes.{AreAdmissibleInHeader};
+    ghost use Rattle.qasm_names.specs.Scopes.{IsSoundHeader};
 
     /// No statements, behind the header.
     pub fn new(alloc: Global) -> Result<Scope, Memory>
-        ensures { IfOk result (λ scope. scope.statements ≡ []) }
+        ensures header { IfOk result (λ scope. IsHeader scope.header) }
+        ensures none { IfOk result (λ scope. scope.statements ≡ []) }
     {
+        one_header();
         let program = SourceProgram::behind(read_header(alloc)?)?;
         Ok(Scope { program })
     }
@@ -55,8 +58,7 @@ impl Scope {
         }
     }
 
-    /// Admits a statement that isn't refused. Without memory nothing changes. Memory is wanted too where a gate has 2^32
-    /// parameters or arguments, or stands behind 2^32 gates.
+    /// Admits a statement that isn't refused. Without memory nothing changes.
     pub fn admit(&mut self, stmt: Stmt) -> Result<(), Memory>
         requires { IsAdmissible self.old.header self.old.statements stmt }
         ensures ok { OnOk result (self.new ≡ record { header = self.old.header; statements = self.old.statements ++ stmt ∷ [] }) }
@@ -76,7 +78,7 @@ impl Scope {
     pub fn statements(&self) -> &[Stmt]
         ensures list { result.now ≡ self.now.statements }
         ensures header { IsHeader self.now.header }
-        ensures header_admissible { AreAdmissibleInHeader [] self.now.header }
+        ensures sound { IsSoundHeader self.now.header }
         ensures admissible { AreAdmissible self.now.header [] self.now.statements }
     {
         self.program.statements()
@@ -92,7 +94,7 @@ impl Scope {
     }
 
     /// What the call at a place of the statements is bound to. A call stands there.
-    pub fn target(&self, place: u32) -> Target
+    pub fn target(&self, place: usize) -> Target
         requires { (call : BodyOp) × (slice_get self.now.statements place ≡ Some (stmt.Call call)) }
         ensures { (call : BodyOp) → slice_get self.now.statements place ≡ Some (stmt.Call call)
             → Some result ≡ target_of (callee (environment self.now.header (take place self.now.statements)) call.name) }

@@ -35,7 +35,7 @@ measure_all-requires-clause-qubits c =
     let from = c.in-Measure.from in
     let into = c.in-Measure.into in
     let at = stmt_at c.statements-statements.result.now p.statements i c.index-statements-place.result (stmt.Measure from into c.in-Measure.at) c.statements-statements.ensures.list c.requires.place c.index-statements-place.is c.in-Measure.is in
-    let ready = ready_reading p.header p.statements i from into c.in-Measure.at (header_bare p.header c.statements-statements.ensures.header_admissible) c.statements-statements.ensures.admissible at in
+    let ready = ready_reading p.header p.statements i from into c.in-Measure.at (header_bare p.header c.statements-statements.ensures.sound.admissible) c.statements-statements.ensures.admissible at in
     subst (λ (all : List Stmt). (k : ℕ) → k < applications (sized all) (from ∷ []) → IsPlaceIn register.Qubit all (applied from k)) (sym c.requires.registers) ready.qubits
 
 pub measure_all-requires-clause-bits : goal.measure_all-requires-clause-bits
@@ -45,7 +45,7 @@ measure_all-requires-clause-bits c =
     let from = c.in-Measure.from in
     let into = c.in-Measure.into in
     let at = stmt_at c.statements-statements.result.now p.statements i c.index-statements-place.result (stmt.Measure from into c.in-Measure.at) c.statements-statements.ensures.list c.requires.place c.index-statements-place.is c.in-Measure.is in
-    let ready = ready_reading p.header p.statements i from into c.in-Measure.at (header_bare p.header c.statements-statements.ensures.header_admissible) c.statements-statements.ensures.admissible at in
+    let ready = ready_reading p.header p.statements i from into c.in-Measure.at (header_bare p.header c.statements-statements.ensures.sound.admissible) c.statements-statements.ensures.admissible at in
     subst (λ (all : List Stmt). (k : ℕ) → k < applications (sized all) (from ∷ []) → IsPlaceIn register.Bit all (applied into k)) (sym c.requires.registers) ready.bits
 
 pub returns-in-Measure-clause-ok : goal.returns-in-Measure-clause-ok
@@ -55,7 +55,7 @@ returns-in-Measure-clause-ok c =
     let from = c.in-Measure.from in
     let into = c.in-Measure.into in
     let at = stmt_at c.statements-statements.result.now p.statements i c.index-statements-place.result (stmt.Measure from into c.in-Measure.at) c.statements-statements.ensures.list c.requires.place c.index-statements-place.is c.in-Measure.is in
-    let ready = ready_reading p.header p.statements i from into c.in-Measure.at (header_bare p.header c.statements-statements.ensures.header_admissible) c.statements-statements.ensures.admissible at in
+    let ready = ready_reading p.header p.statements i from into c.in-Measure.at (header_bare p.header c.statements-statements.ensures.sound.admissible) c.statements-statements.ensures.admissible at in
     let visits : readings_of c.args.registers.now from into ≡ visits_at p i = reading_visits p i from into c.in-Measure.at c.args.registers.now c.requires.registers ready.visits at in
     let gates = (environment p.header p.statements).gates in
     on_ok_map c.measure_all.result (λ w. subst (Walks gates c.args.walk.now c.measure_all.new.walk) visits (w gates)) c.measure_all.ensures.ok
@@ -67,7 +67,7 @@ returns-in-Measure-clause-err c =
     let from = c.in-Measure.from in
     let into = c.in-Measure.into in
     let at = stmt_at c.statements-statements.result.now p.statements i c.index-statements-place.result (stmt.Measure from into c.in-Measure.at) c.statements-statements.ensures.list c.requires.place c.index-statements-place.is c.in-Measure.is in
-    let ready = ready_reading p.header p.statements i from into c.in-Measure.at (header_bare p.header c.statements-statements.ensures.header_admissible) c.statements-statements.ensures.admissible at in
+    let ready = ready_reading p.header p.statements i from into c.in-Measure.at (header_bare p.header c.statements-statements.ensures.sound.admissible) c.statements-statements.ensures.admissible at in
     let visits : readings_of c.args.registers.now from into ≡ visits_at p i = reading_visits p i from into c.in-Measure.at c.args.registers.now c.requires.registers ready.visits at in
     let gates = (environment p.header p.statements).gates in
     if_err_map c.measure_all.result (λ e w. subst (λ vs. Passes gates c.args.walk.now vs e) visits (w gates)) c.measure_all.ensures.err

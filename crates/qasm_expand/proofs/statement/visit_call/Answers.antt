@@ -20,13 +20,8 @@ use Rattle.qasm_expand.proofs.TopCalls.{memory_passes}
 use Rattle.qasm_expand.proofs.TopLemmas.{if_err_map}
 use Rattle.qasm_expand.proofs.statement.visit_call.Goals as goal
 
-pub returns-in_default-clause-err : goal.returns-in_default-clause-err
-returns-in_default-clause-err c =
-    let p = c.args.program.now in
-    memory_passes (environment p.header p.statements).gates c.args.walk.now (visits_at p c.args.place) _ refl
-
 pub target-requires : goal.target-requires
-target-requires c = (c.args.call.now, ap (slice_get c.args.program.now.statements) c.in-Ok.ensures.1 ∙ c.requires.at)
+target-requires c = (c.args.call.now, c.requires.at)
 
 pub apply_all-requires-clause-short : goal.apply_all-requires-clause-short
 apply_all-requires-clause-short c = subst HaveShortNumbers (sym c.gates-gates.ensures.list) c.requires.short
@@ -41,7 +36,7 @@ apply_all-requires-clause-suits c =
     let p = c.args.program.now in
     let call = c.args.call.now in
     let ready = ready_call p.header p.statements c.args.place call (header_bare p.header c.requires.header) c.requires.admissible c.requires.before c.requires.at in
-    let target = target_read p c.args.place c.in-Ok.at call c.target.result c.in-Ok.ensures.1 (c.target.ensures call (ap (slice_get p.statements) c.in-Ok.ensures.1 ∙ c.requires.at)) in
+    let target = target_read p c.args.place call c.target.result (c.target.ensures call c.requires.at) in
     subst (λ (gates : List GateDef). Suits gates c.target.result (length call.exprs) (length call.args)) (sym c.gates-gates.ensures.list) (subst (λ (t : Target). Suits (environment p.header p.statements).gates t (length call.exprs) (length call.args)) (sym target) ready.suits)
 
 pub apply_all-requires-clause-places : goal.apply_all-requires-clause-places
@@ -56,7 +51,7 @@ returns-clause-ok c =
     let p = c.args.program.now in
     let call = c.args.call.now in
     let ready = ready_call p.header p.statements c.args.place call (header_bare p.header c.requires.header) c.requires.admissible c.requires.before c.requires.at in
-    let target = target_read p c.args.place c.in-Ok.at call c.target.result c.in-Ok.ensures.1 (c.target.ensures call (ap (slice_get p.statements) c.in-Ok.ensures.1 ∙ c.requires.at)) in
+    let target = target_read p c.args.place call c.target.result (c.target.ensures call c.requires.at) in
     let visits : visits_of c.args.registers.now c.target.result call ≡ visits_at p c.args.place = call_visits p c.args.place call c.args.registers.now c.target.result c.requires.registers target ready.visits c.requires.at in
     on_ok_map c.apply_all.result (λ w. subst (λ (gates : List GateDef). Walks gates c.args.walk.now c.apply_all.new.walk (visits_at p c.args.place)) c.gates-gates.ensures.list (subst (Walks c.gates-gates.result.now c.args.walk.now c.apply_all.new.walk) visits w)) c.apply_all.ensures.ok
 
@@ -65,6 +60,6 @@ returns-clause-err c =
     let p = c.args.program.now in
     let call = c.args.call.now in
     let ready = ready_call p.header p.statements c.args.place call (header_bare p.header c.requires.header) c.requires.admissible c.requires.before c.requires.at in
-    let target = target_read p c.args.place c.in-Ok.at call c.target.result c.in-Ok.ensures.1 (c.target.ensures call (ap (slice_get p.statements) c.in-Ok.ensures.1 ∙ c.requires.at)) in
+    let target = target_read p c.args.place call c.target.result (c.target.ensures call c.requires.at) in
     let visits : visits_of c.args.registers.now c.target.result call ≡ visits_at p c.args.place = call_visits p c.args.place call c.args.registers.now c.target.result c.requires.registers target ready.visits c.requires.at in
     if_err_map c.apply_all.result (λ e w. subst (λ (gates : List GateDef). Passes gates c.args.walk.now (visits_at p c.args.place) e) c.gates-gates.ensures.list (subst (λ vs. Passes c.gates-gates.result.now c.args.walk.now vs e) visits w)) c.apply_all.ensures.err

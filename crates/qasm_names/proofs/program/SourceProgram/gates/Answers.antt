@@ -9,4 +9,4 @@ pub returns-clause-bound : goal.returns-clause-bound
 returns-clause-bound c place =
     let P : List GateDef → Type 0 = λ l. IsWellBound l place in
     let names = c.self.inside.names in
-    subst P (sym (c.gates.ensures ∙ ap (λ (e : Environment). e.gates) (c.known.ensures ∙ c.self.invariant.means))) (IsWellBound-admissible c.self.inside.header names.before c.self.invariant.header_admissible c.self.invariant.admissible place)
+    subst P (sym (c.gates.ensures ∙ ap (λ (e : Environment). e.gates) (c.known.ensures ∙ c.self.invariant.means))) (IsWellBound-admissible c.self.inside.header names.before c.self.invariant.sound.admissible c.self.invariant.admissible place)
