@@ -118,7 +118,7 @@ statement_there header pre suf (stmt.Measure from into at) good =
 statement_there header pre suf (stmt.Barrier args at) good = (tt, tt)
 statement_there header pre suf other good = tt
 
-behind_there : (header pre suf all : List Stmt) → all ≡ pre ++ suf → AreAdmissible header pre suf → AllByRecursion (CallsOneOf (environment header all).gates) (items_behind (environment header pre) all suf)
+pub behind_there : (header pre suf all : List Stmt) → all ≡ pre ++ suf → AreAdmissible header pre suf → AllByRecursion (CallsOneOf (environment header all).gates) (items_behind (environment header pre) all suf)
 behind_there header pre [] all is good = tt
 behind_there header pre (s ∷ suf) all is good =
     let e = environment header pre in

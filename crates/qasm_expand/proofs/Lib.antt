@@ -31,6 +31,7 @@ pub mod ReplacingLemmas
 pub mod WalksLemmas
 pub mod CallsLemmas
 pub mod ExistenceLemmas
+pub mod VisitExistence
 pub mod TopLemmas
 pub mod LookupLemmas
 pub mod DepthLemmas
