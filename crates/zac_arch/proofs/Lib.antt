@@ -5,6 +5,7 @@ pub mod Ranges
 mod Sites
 mod Walks
 mod Finding
+mod Nearest
 mod Roots
 pub mod Geometry
 pub mod Spacing

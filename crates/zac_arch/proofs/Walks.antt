@@ -11,7 +11,7 @@ use Rattle.zac_arch.specs.declared.place.Point.{Point}
 use Rattle.zac_arch.specs.declared.card.Zone.{Zone}
 use Rattle.zac_arch.specs.declared.card.ZoneKind.{ZoneKind}
 use Rattle.zac_arch.specs.declared.card.ZoneKind.TheVariants.{Storage, Entangling}
-use Rattle.zac_arch.specs.Architecture.{Architecture, StandsAt, is_storage, traps_per_place, zone_traps, zone_sites, trap_count, storage_count, site_count, traps_before, last_x, last_y, IsTrapOf}
+use Rattle.zac_arch.specs.Architecture.{Architecture, StandsAt, is_storage, traps_per_place, zone_traps, trap_count, storage_count, site_count, traps_before, last_x, last_y, IsTrapOf}
 use Rattle.zac_arch.specs.Rules.{KeepsRules}
 use Rattle.zac_arch.proofs.Grid.{in_box, at_place, in_grid, point_at, length-zone_traps}
 use Rattle.zac_arch.proofs.Zones.{count, count-cons, count_is, storage_zones, storage_first, entangling_first, storage_length, kind_cases, stands_at_place}

@@ -2,17 +2,18 @@
 
 ghost use Rattle.std.specs.Prelude.{◌≡◌, ◌+◌, ◌*◌, ◌<◌, ◌≤◌, ◌↔◌, ℕ, IsTrue, IfOk, Some, MatchOption, MatchResult, length, [], ◌∷◌};
 ghost use Rattle.zac_arch.specs.Architecture.{is_storage, trap_count, traps_before, storage_count, site_count, StandsAt, left_trap, right_trap, IsTrapOf, IsInZone, IsLit};
-ghost use Rattle.zac_arch.specs.Distances.{IsMoveTime};
+ghost use Rattle.zac_arch.specs.Distances.{IsFarther, IsMoveTime};
 ghost use Rattle.zac_arch.specs.Rules.{KeepsRules, HasFigureRanges, IsLeastBroken, passes_pairs, stands_in_order};
 ghost use Rattle.zac_arch.specs.Tiny.{built_in_figures, tiny_architecture};
 ghost use Rattle.zac_arch.specs.Standard.{standard_architecture};
+ghost use Rattle.zac_arch.specs.declared.place.Point.{Point};
 
 use crate::Memory;
 use crate::counts::{sites_in, storage_traps_in};
 use crate::duration::least_time;
 use crate::place::{Point, SiteId, TrapId};
 use crate::rules::least_broken_rule;
-use crate::zone_grid::{is_lit_by, place_at, point_in, traps_of};
+use crate::zone_grid::{is_lit_by, is_off, place_at, point_in, traps_of};
 use std::alloc::Global;
 use std::marker::Model;
 
@@ -364,6 +365,20 @@ impl Card {
             }
         }
         false
+    }
+
+    /// Whether a point is farther than the reach from every trap.
+    pub fn is_off_traps(&self, p: Point) -> bool
+        ensures { IsTrue result ↔ ((t : ℕ) (q : Point) → StandsAt self.now t q → IsFarther self.now.figures.reach p q) }
+    {
+        let reach = self.figures().reach;
+        let zones = self.ruled_zones();
+        for zone in zones {
+            if !is_off(*zone, reach, p) {
+                return false;
+            }
+        }
+        true
     }
 
     /// How long a move takes whose greatest change of a column is `dx` and of a row is `dy`, in nanoseconds.

@@ -1,10 +1,12 @@
 //! The traps of one zone, by arithmetic on its grid.
 
-ghost use Rattle.std.specs.Prelude.{◌≡◌, ℕ, ◌+◌, ◌*◌, ◌<◌, ◌≤◌, ◌^◌, ◌↔◌, IsTrue, Some, MatchOption, length, slice_get};
+ghost use Rattle.std.specs.Prelude.{◌≡◌, ℕ, ◌+◌, ◌-◌, ◌*◌, ◌<◌, ◌≤◌, ◌^◌, ◌↔◌, IsTrue, Some, MatchOption, length, slice_get};
 ghost use Rattle.zac_arch.specs.Architecture.{traps_per_place, zone_traps, last_x, last_y, IsInWidenedBox};
+ghost use Rattle.zac_arch.specs.Distances.{difference, IsFarther};
+ghost use Rattle.zac_arch.specs.declared.place.Point.{Point};
 
 use crate::card::{Zone, ZoneKind};
-use crate::place::Point;
+use crate::place::{Point, within};
 
 /// How many traps stand at one place of a zone's grid.
 fn traps_at_place(kind: ZoneKind) -> u32
@@ -102,4 +104,56 @@ pub(crate) fn is_lit_by(z: Zone, radius: u32, p: Point) -> bool
             is_between(z.x, last_x, radius, p.x) && is_between(z.y, last_y, radius, p.y)
         }
     }
+}
+
+/// How far a number is from the nearest of `count` numbers, of which `first` is the least and each further one is
+/// `step` greater than the one before it.
+fn distance_to_nearest(first: u32, step: u32, count: u32, n: u32) -> u32
+    requires rises { 1 ≤ step }
+    requires some { 1 ≤ count }
+    requires fits { first + (count - 1) * step < 2 ^ 32 }
+    ensures reached { (i : ℕ) × (i < count) × (result ≡ difference n (first + i * step)) }
+    ensures least { (i : ℕ) → i < count → result ≤ difference n (first + i * step) }
+{
+    if n <= first {
+        return first - n;
+    }
+    let last = first + (count - 1) * step;
+    if last <= n {
+        return n - last;
+    }
+    let past = (n - first) % step;
+    past.min(step - past)
+}
+
+/// How far an x is from the nearest column of a zone's traps.
+fn distance_to_column(z: Zone, x: u32) -> u32
+    requires fits { last_x z < 2 ^ 32 }
+    requires column { 1 ≤ z.columns }
+    requires column_distance { 1 ≤ z.dx }
+    ensures reached { (column : ℕ) × (side : ℕ) × (column < z.columns) × (side < traps_per_place z.kind)
+        × (result ≡ difference x (z.x + column * z.dx + side * z.pair)) }
+    ensures least { (column side : ℕ) → column < z.columns → side < traps_per_place z.kind
+        → result ≤ difference x (z.x + column * z.dx + side * z.pair) }
+{
+    let left = distance_to_nearest(z.x, z.dx, z.columns, x);
+    match z.kind {
+        ZoneKind::Storage => left,
+        ZoneKind::Entangling => left.min(distance_to_nearest(z.x + z.pair, z.dx, z.columns, x)),
+    }
+}
+
+/// Whether a point is farther than the reach from every trap of a zone.
+pub(crate) fn is_off(z: Zone, reach: u32, p: Point) -> bool
+    requires x_fits { last_x z < 2 ^ 32 }
+    requires y_fits { last_y z < 2 ^ 32 }
+    requires column { 1 ≤ z.columns }
+    requires row { 1 ≤ z.rows }
+    requires column_distance { 1 ≤ z.dx }
+    requires row_distance { 1 ≤ z.dy }
+    ensures { IsTrue result ↔ ((place : ℕ) (q : Point) → slice_get (zone_traps z) place ≡ Some q → IsFarther reach p q) }
+{
+    let across = distance_to_column(z, p.x);
+    let up = distance_to_nearest(z.y, z.dy, z.rows, p.y);
+    !within(Point { x: 0, y: 0 }, Point { x: across, y: up }, reach)
 }
