@@ -1,5 +1,5 @@
 -- Which steps an instruction has, and which lists of instructions are programs.
-use Rattle.std.specs.Prelude.{ℕ, Bool, true, false, not, ◌&&◌, ◌==◌, List, [], ◌∷◌, map}
+use Rattle.std.specs.Prelude.{◌≡◌, ℕ, Bool, true, false, not, ◌&&◌, ◌==◌, Some, List, [], ◌∷◌, map, slice_get}
 use Rattle.std.specs.List.{list_all}
 use Rattle.zac_arch.specs.declared.place.TrapId.{TrapId}
 use Rattle.zair_form.specs.declared.step.Step.{Step}
@@ -64,3 +64,8 @@ homes_of (Readout reads) = []
 abbrev pub homes : List Instr → List TrapId
 homes [] = []
 homes (i ∷ is) = homes_of i.act
+
+-- The step stands at this place among those of the instruction of this number, both counted from 0.
+abbrev pub IsStepAt : List Instr → ℕ → ℕ → Step → Type 0
+IsStepAt program number place s =
+    (i : Instr) × (slice_get program number ≡ Some i) × (slice_get (steps_of i.act) place ≡ Some s)

@@ -2,6 +2,7 @@
 //! machine, instructions and programs, with the times of steps.
 #![tactic(auto)]
 
+mod copies;
 pub mod program;
 pub mod step;
 

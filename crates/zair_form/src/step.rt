@@ -4,7 +4,7 @@ use zac_arch::TrapId;
 use zac_gates::{Angles, List};
 
 /// A beam of an AOD and where it stands.
-#[derive(Clone, Copy, Debug, PartialEq, Eq)]
+#[derive(Clone, Copy, Debug, Default, PartialEq, Eq)]
 pub struct Beam {
     /// Its number among the rows, or among the columns, of its AOD.
     pub id: u8,
