@@ -1,3 +1,5 @@
 pub mod Angle
 pub mod Ops
 pub mod Log
+pub mod Checklist
+pub mod Waiting

@@ -5,11 +5,15 @@
 #![tactic(auto)]
 
 pub mod angle;
+pub mod checklist;
 pub mod circuit;
 pub mod laws;
 pub mod list;
+mod same;
+mod waiting;
 
 pub use angle::{Angle, Angles};
+pub use checklist::{CheckFault, Checklist};
 pub use circuit::{Circuit, CircuitFault, Op};
 pub use list::{Bytes, List};
 pub use zac_memory::Memory;

@@ -1,4 +1,4 @@
-use Rattle.std.proofs.Common.{◌<◌, ◌^◌, length, subst}
+use Rattle.std.proofs.Common.{subst}
 use Rattle.zac_gates.specs.Ops.{NativeCircuit, IsCircuit}
 use Rattle.zac_gates.proofs.circuit.Circuit.ops.Goals as goal
 use Rattle.zac_gates.proofs.circuit.Circuit.ops.Goals.{After-as_slice}
