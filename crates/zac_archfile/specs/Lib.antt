@@ -1,0 +1,5 @@
+pub mod Fields
+pub mod Entries
+pub mod Values
+pub mod Faults
+pub mod Texts

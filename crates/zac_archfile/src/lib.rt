@@ -1,0 +1,16 @@
+//! The card of a machine as JSON text.
+//!
+//! A card file is one JSON object. Its fields, their ranges and the order in which faults are told are this project's own.
+#![tactic(auto)]
+
+pub mod fault;
+pub mod field;
+pub mod found;
+pub mod read;
+pub mod write;
+
+pub use fault::CardFault;
+pub use field::Field;
+pub use read::read_card;
+pub use write::write_card;
+pub use zac_memory::Memory;
