@@ -1,6 +1,7 @@
 -- The JSON value of an architecture, and the architecture of a JSON value. The members of an object stand in byte order of
 -- their keys.
-use Rattle.std.specs.Prelude.{ℕ, not, List, [], ◌∷◌, ◌++◌, map, filter, codes}
+use Rattle.std.specs.Prelude.{ℕ, ◌≤◌, not, List, [], ◌∷◌, ◌++◌, map, filter, codes}
+use Rattle.std.specs.List.{AllByRecursion}
 use Rattle.serde_json.specs.Data.{Data, number, unsigned, array, object, Members, member, no_members}
 use Rattle.serde_json.specs.View.{items_of}
 use Rattle.zac_arch.specs.Architecture.{Architecture, is_storage}
@@ -12,6 +13,7 @@ use Rattle.zac_archfile.specs.declared.field.Field.TheVariants.{Gap, Park, Reach
 use Rattle.zac_archfile.specs.declared.found.Found.{Found}
 use Rattle.zac_archfile.specs.declared.found.Found.TheVariants.{Whole}
 use Rattle.zac_archfile.specs.Entries.{found_at, zones_at}
+use Rattle.zac_archfile.specs.Fields.{range_of}
 
 -- A number as a JSON number.
 abbrev pub number_value : ℕ → Data
@@ -122,9 +124,14 @@ entangling_zone d = record {
   rows = number_at d EntanglingRows;
 }
 
--- The architecture that a value tells: its figures, and its zones, those of storage first.
+-- The zones that a value tells, those of storage first.
+abbrev pub zones_of : Data → List Zone
+zones_of d = map storage_zone (zones_at d Storage) ++ map entangling_zone (zones_at d Entangling)
+
+-- The architecture that a value tells: its figures and its zones.
 abbrev pub architecture_of : Data → Architecture
-architecture_of d = record {
-  figures = figures_of d;
-  zones = map storage_zone (zones_at d Storage) ++ map entangling_zone (zones_at d Entangling);
-}
+architecture_of d = record { figures = figures_of d; zones = zones_of d }
+
+-- Each number that stands at one of the fields is at most the greatest of the field's range.
+abbrev pub HasSmallNumbers : List Field → Data → Type 0
+HasSmallNumbers fields d = AllByRecursion (λ f. number_at d f ≤ (range_of f).most) fields

@@ -1,7 +1,7 @@
 //! The fields of a card.
 
 ghost use Rattle.std.specs.Prelude.{◌≡◌};
-ghost use Rattle.zac_archfile.specs.Fields.{key_of, name_of};
+ghost use Rattle.zac_archfile.specs.Fields.{key_of, name_of, is_zone_list, is_in_range_of, range_of};
 
 /// A field of a card, or of one of its zones.
 ///
@@ -68,7 +68,136 @@ pub enum Field {
     EntanglingRows,
 }
 
+/// The fields of the card's own object that are numbers.
+pub(crate) const FIGURE_FIELDS: [Field; 14] = [
+    Field::Version,
+    Field::Gap,
+    Field::Park,
+    Field::Reach,
+    Field::Radius,
+    Field::Accel,
+    Field::Activate,
+    Field::Deactivate,
+    Field::One,
+    Field::Pulse,
+    Field::Readout,
+    Field::Aods,
+    Field::Rows,
+    Field::Columns,
+];
+
+/// The fields of the card's own object.
+pub(crate) const TOP_FIELDS: [Field; 16] = [
+    Field::Version,
+    Field::Gap,
+    Field::Park,
+    Field::Reach,
+    Field::Radius,
+    Field::Accel,
+    Field::Activate,
+    Field::Deactivate,
+    Field::One,
+    Field::Pulse,
+    Field::Readout,
+    Field::Aods,
+    Field::Rows,
+    Field::Columns,
+    Field::Storage,
+    Field::Entangling,
+];
+
+/// The fields of a storage zone.
+pub(crate) const STORAGE_FIELDS: [Field; 6] = [
+    Field::StorageX,
+    Field::StorageY,
+    Field::StorageDx,
+    Field::StorageDy,
+    Field::StorageColumns,
+    Field::StorageRows,
+];
+
+/// The fields of an entangling zone.
+pub(crate) const ENTANGLING_FIELDS: [Field; 7] = [
+    Field::EntanglingX,
+    Field::EntanglingY,
+    Field::EntanglingDx,
+    Field::EntanglingDy,
+    Field::EntanglingPair,
+    Field::EntanglingColumns,
+    Field::EntanglingRows,
+];
+
 impl Field {
+    /// The key that the field has in its object.
+    pub fn key(&self) -> &str
+        ensures { result.now ≡ key_of self.now }
+    {
+        match self {
+            Field::Version => "version",
+            Field::Gap => "gap",
+            Field::Park => "park",
+            Field::Reach => "reach",
+            Field::Radius => "radius",
+            Field::Accel => "accel",
+            Field::Activate => "activate",
+            Field::Deactivate => "deactivate",
+            Field::One => "one",
+            Field::Pulse => "pulse",
+            Field::Readout => "readout",
+            Field::Aods => "aods",
+            Field::Storage => "storage",
+            Field::Entangling => "entangling",
+            Field::Rows | Field::StorageRows | Field::EntanglingRows => "rows",
+            Field::Columns | Field::StorageColumns | Field::EntanglingColumns => "columns",
+            Field::StorageX | Field::EntanglingX => "x",
+            Field::StorageY | Field::EntanglingY => "y",
+            Field::StorageDx | Field::EntanglingDx => "dx",
+            Field::StorageDy | Field::EntanglingDy => "dy",
+            Field::EntanglingPair => "pair",
+        }
+    }
+
+    /// Whether it is a list of zones, and no number.
+    pub(crate) fn is_list(self) -> bool
+        ensures { result ≡ is_zone_list self }
+    {
+        matches!(self, Field::Storage | Field::Entangling)
+    }
+
+    /// The least and the greatest number that the field may have. A list of zones has no number.
+    fn range(self) -> (u64, u64)
+        ensures least { result.0 ≡ (range_of self).least }
+        ensures most { result.1 ≡ (range_of self).most }
+    {
+        match self {
+            Field::Version => (1, 1),
+            Field::Gap | Field::Park | Field::Radius => (1, 100_000),
+            Field::Reach => (0, 100_000),
+            Field::Accel => (100, 1_000_000),
+            Field::Activate | Field::Deactivate | Field::One | Field::Pulse | Field::Readout => {
+                (1, 1_000_000_000)
+            }
+            Field::Aods => (1, 8),
+            Field::Rows | Field::Columns => (1, 64),
+            Field::StorageX | Field::StorageY | Field::EntanglingX | Field::EntanglingY => {
+                (0, 1_000_000)
+            }
+            Field::StorageDx | Field::StorageDy => (1, 1_000_000),
+            Field::EntanglingDx | Field::EntanglingDy | Field::EntanglingPair => (1, 1_000_000),
+            Field::StorageColumns | Field::StorageRows => (1, 65_536),
+            Field::EntanglingColumns | Field::EntanglingRows => (1, 65_536),
+            Field::Storage | Field::Entangling => (0, 0),
+        }
+    }
+
+    /// Whether the number lies in the field's range.
+    pub(crate) fn admits(self, n: u64) -> bool
+        ensures { result ≡ is_in_range_of self n }
+    {
+        let (least, most) = self.range();
+        least <= n && n <= most
+    }
+
     /// The name that faults tell: the key, and before it, for a zone's field, the key of the zone's list and a point, as
     /// `gap` and `storage.dx`.
     pub fn name(&self) -> &str

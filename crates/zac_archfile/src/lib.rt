@@ -3,10 +3,13 @@
 //! A card file is one JSON object. Its fields, their ranges and the order in which faults are told are this project's own.
 #![tactic(auto)]
 
+mod build;
 pub mod fault;
 pub mod field;
 pub mod found;
+mod judge;
 pub mod read;
+mod value;
 pub mod write;
 
 pub use fault::CardFault;
