@@ -6,3 +6,5 @@ pub mod Written
 pub mod Formed
 pub mod Canon
 pub mod Faulty
+pub mod Back
+pub mod OneAnswer

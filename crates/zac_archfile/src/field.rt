@@ -129,7 +129,7 @@ pub(crate) const ENTANGLING_FIELDS: [Field; 7] = [
 
 impl Field {
     /// The key that the field has in its object.
-    pub fn key(&self) -> &str
+    pub fn key(&self) -> &'static str
         ensures { result.now ≡ key_of self.now }
     {
         match self {
@@ -200,7 +200,7 @@ impl Field {
 
     /// The name that faults tell: the key, and before it, for a zone's field, the key of the zone's list and a point, as
     /// `gap` and `storage.dx`.
-    pub fn name(&self) -> &str
+    pub fn name(&self) -> &'static str
         ensures { result.now ≡ name_of self.now }
     {
         match self {

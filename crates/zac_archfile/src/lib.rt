@@ -8,12 +8,14 @@ pub mod fault;
 pub mod field;
 pub mod found;
 mod judge;
+pub mod laws;
 pub mod read;
 mod value;
 pub mod write;
 
 pub use fault::CardFault;
 pub use field::Field;
+pub use laws::card_or_one_fault;
 pub use read::read_card;
 pub use write::write_card;
 pub use zac_memory::Memory;
