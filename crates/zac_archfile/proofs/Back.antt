@@ -1,5 +1,5 @@
 -- The value of an architecture that keeps the rules has no fault of form, and tells that architecture.
-use Rattle.std.proofs.Common.{◌≡◌, ℕ, ◌≤◌, Bool, true, false, not, ◌&&◌, ◌||◌, ◌==◌, if◌then◌else◌, cond, IsTrue, nat_le, List, [], ◌∷◌, ◌++◌, map, filter, Option, Some, None, option_map, refl, sym, ap, ap₂, ◌∙◌, subst, arith, true≢false}
+use Rattle.std.proofs.Common.{◌≡◌, ℕ, ◌≤◌, Bool, true, false, not, ◌&&◌, ◌||◌, ◌==◌, if◌then◌else◌, IsTrue, nat_le, List, [], ◌∷◌, ◌++◌, map, filter, Option, Some, None, option_map, refl, sym, ap, ap₂, ◌∙◌, subst, arith, true≢false}
 use Rattle.std.proofs.lemmas.Bool.{and_parts, and_from, le-leb, eqb-true}
 use Rattle.std.specs.List.{AllByRecursion, find, flat_map, list_all, list_any}
 use Rattle.std.specs.Option.{option_or}
@@ -11,7 +11,7 @@ use Rattle.zac_arch.specs.declared.card.Figures.{Figures}
 use Rattle.zac_arch.specs.declared.card.Zone.{Zone}
 use Rattle.zac_arch.specs.declared.card.ZoneKind.{ZoneKind}
 use Rattle.zac_arch.specs.declared.card.ZoneKind.TheVariants as kind
-use Rattle.zac_arch.proofs.Ranges.{figure_ranges, ZoneRanges, zone_ranges}
+use Rattle.zac_arch.proofs.Ranges.{figure_ranges, zone_ranges}
 use Rattle.zac_archfile.specs.declared.fault.CardFault.TheVariants.{Missing, Unknown, NotWhole, Range}
 use Rattle.zac_archfile.specs.declared.field.Field.{Field}
 use Rattle.zac_archfile.specs.declared.field.Field.TheVariants.{Storage, Entangling}
@@ -21,7 +21,7 @@ use Rattle.zac_archfile.specs.declared.found.Entry.{Entry}
 use Rattle.zac_archfile.specs.Fields.{figure_fields, storage_fields, entangling_fields}
 use Rattle.zac_archfile.specs.Entries.{list_of, is_object, found_at, entry_at, zones_at, zone_entries, card_entries, has_other_key, has_unknown_key}
 use Rattle.zac_archfile.specs.Faults.{is_absent, is_fitting, is_in_range, first_field, first_missing, first_not_whole, first_out_of_range, form_fault}
-use Rattle.zac_archfile.specs.Values.{storage_value, entangling_value, card_value, storage_zone, entangling_zone, zones_of, architecture_of}
+use Rattle.zac_archfile.specs.Values.{storage_value, entangling_value, card_value, storage_zone, entangling_zone, architecture_of}
 
 -- something stands at the field, it fits, and it is in range
 abbrev IsGood : Entry → Type 0

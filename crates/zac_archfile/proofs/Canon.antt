@@ -2,9 +2,8 @@
 use Rattle.std.proofs.Common.{◌≡◌, ℕ, Bool, true, false, not, ◌&&◌, ◌||◌, if◌then◌else◌, IsTrue, nat_le, leb-true, arith, List, [], ◌∷◌, ◌++◌, map, filter, Option, Some, None, refl, sym, ap, ap₂, ◌∙◌, subst, true≢false}
 use Rattle.std.proofs.lemmas.Bool.{and_parts}
 use Rattle.std.specs.List.{AllByRecursion, list_all, list_any}
-use Rattle.serde_json.specs.Data.{Num, unsigned, negative, float, Data, null, boolean, number, string, array, object, Items, no_items, item, Members}
+use Rattle.serde_json.specs.Data.{Num, unsigned, negative, float, Data, null, boolean, number, string, array, object, Items, no_items, item}
 use Rattle.serde_json.specs.Find.{get}
-use Rattle.serde_json.specs.Read.{read}
 use Rattle.serde_json.specs.View.{items_of}
 use Rattle.zac_arch.specs.Architecture.{is_storage}
 use Rattle.zac_arch.specs.Rules.{passes_pairs, stands_in_order, KeepsRules}
@@ -13,12 +12,12 @@ use Rattle.zac_archfile.specs.declared.field.Field.{Field}
 use Rattle.zac_archfile.specs.declared.field.Field.TheVariants.{Version, Gap, Park, Reach, Radius, Accel, Activate, Deactivate, One, Pulse, Readout, Aods, Rows, Columns, Storage, StorageX, StorageY, StorageDx, StorageDy, StorageColumns, StorageRows, Entangling, EntanglingX, EntanglingY, EntanglingDx, EntanglingDy, EntanglingPair, EntanglingColumns, EntanglingRows}
 use Rattle.zac_archfile.specs.Fields.{key_of, figure_fields, storage_fields, entangling_fields}
 use Rattle.zac_archfile.specs.declared.found.Found.TheVariants.{Objects, Other}
-use Rattle.zac_archfile.specs.Entries.{list_of, is_object, found_number, found_in, found_at, objects_in, zones_at, has_other_key, has_unknown_key}
+use Rattle.zac_archfile.specs.Entries.{list_of, is_object, found_number, found_in, found_at, objects_in, zones_at, has_other_key}
 use Rattle.zac_archfile.specs.Faults.{is_objects, form_fault, IsObjectText}
 use Rattle.zac_archfile.specs.Values.{number_value, number_at, storage_value, entangling_value, storage_list, entangling_list, card_value, storage_zone, entangling_zone, zones_of, architecture_of}
 use Rattle.zac_archfile.specs.Texts.{IsCardText}
 use Rattle.zac_archfile.proofs.Exact.{exact, or_parts}
-use Rattle.zac_archfile.proofs.Formed.{IsNumber, HasNumbers, IsFormed, formed}
+use Rattle.zac_archfile.proofs.Formed.{HasNumbers, IsFormed, formed}
 use Rattle.zac_archfile.proofs.Ordered.{IsOrdered, read_ordered, list_ordered}
 
 -- ---- one zone

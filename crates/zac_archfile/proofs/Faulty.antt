@@ -1,5 +1,5 @@
 -- The faults of a text.
-use Rattle.std.proofs.Common.{◌≡◌, ℕ, Bool, true, false, if◌then◌else◌, List, Option, Some, None, option_map, ◌⊎◌, refl, inl, inr, subst}
+use Rattle.std.proofs.Common.{◌≡◌, ℕ, Bool, true, false, if◌then◌else◌, List, Option, Some, None, option_map, subst}
 use Rattle.std.specs.Option.{option_or}
 use Rattle.serde_json.specs.Data.{Data}
 use Rattle.zac_archfile.specs.declared.fault.CardFault.{CardFault}

@@ -1,11 +1,10 @@
 -- An object without a fault of form: what stands at each of its fields.
-use Rattle.std.proofs.Common.{◌≡◌, ℕ, ◌≤◌, Bool, true, false, not, ◌&&◌, ◌||◌, if◌then◌else◌, nat_le, List, [], ◌∷◌, ◌++◌, map, filter, Option, Some, None, option_map, refl, sym, ap, ◌∙◌, true≢false, leb-true}
+use Rattle.std.proofs.Common.{◌≡◌, Bool, true, false, not, if◌then◌else◌, nat_le, List, [], ◌∷◌, ◌++◌, map, Option, Some, None, option_map, refl, sym, true≢false, leb-true}
 use Rattle.std.proofs.lemmas.Bool.{and_parts}
-use Rattle.std.specs.List.{AllByRecursion, find, flat_map, list_all, list_any}
+use Rattle.std.specs.List.{AllByRecursion, find, flat_map, list_all}
 use Rattle.std.specs.Option.{option_or}
 use Rattle.serde_json.specs.Data.{Num, unsigned, negative, float, Data, null, boolean, number, string, array, object}
 use Rattle.serde_json.specs.Find.{get}
-use Rattle.zac_archfile.specs.declared.fault.CardFault.{CardFault}
 use Rattle.zac_archfile.specs.declared.fault.CardFault.TheVariants.{Missing, Unknown, NotWhole, Range}
 use Rattle.zac_archfile.specs.declared.field.Field.{Field}
 use Rattle.zac_archfile.specs.declared.field.Field.TheVariants.{Storage, Entangling}

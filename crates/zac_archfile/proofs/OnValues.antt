@@ -1,5 +1,5 @@
 -- Facts on what is in an option, where something is.
-use Rattle.std.proofs.Common.{◌≡◌, Bool, true, false, if◌then◌else◌, Option, Some, None, option_map, option_and_then, refl}
+use Rattle.std.proofs.Common.{Option, Some, None, option_map, option_and_then}
 
 -- where there is a value, it is so
 pub OnValue : {A : Type 0} → (A → Type 0) → Option A → Type 0

@@ -8,8 +8,7 @@ use Rattle.std.specs.List.{AllByRecursion, list_all}
 use Rattle.serde_json.specs.Data.{Data}
 use Rattle.serde_json.specs.Read.{read}
 use Rattle.zac_arch.specs.Architecture.{Architecture}
-use Rattle.zac_arch.specs.Rules.{KeepsRules, IsBroken, IsLeastBroken, rule_tests, lengths_in_range, times_in_range, beams_in_range, figures_in_range, zone_in_range, has_few_zones, parks_out_of_reach, is_spaced, blocks_pairs_alone, passes_pairs, are_separate, is_on_the_field}
-use Rattle.zac_arch.specs.declared.card.Zone.{Zone}
+use Rattle.zac_arch.specs.Rules.{KeepsRules, IsLeastBroken, rule_tests, lengths_in_range, times_in_range, beams_in_range, figures_in_range, zone_in_range}
 use Rattle.zac_archfile.specs.declared.fault.CardFault.{CardFault}
 use Rattle.zac_archfile.specs.declared.fault.CardFault.TheVariants.{NotJson, Missing, Unknown, NotWhole, Range, Invalid, Memory}
 use Rattle.zac_archfile.specs.declared.field.Field.TheVariants.{Reach, Storage, StorageX, StorageY, Entangling, EntanglingX, EntanglingY}

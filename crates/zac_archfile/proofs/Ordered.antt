@@ -1,5 +1,5 @@
 -- The objects of what a text reads as have their keys in order.
-use Rattle.std.proofs.Common.{◌≡◌, ℕ, Bool, true, false, List, [], ◌∷◌, Option, Some, None, option_map, option_and_then, Ordering, Less, Equal, Greater, nat_cmp, refl, sym, ap, ◌∙◌, subst, T}
+use Rattle.std.proofs.Common.{◌≡◌, ℕ, List, [], ◌∷◌, Option, Some, option_map, option_and_then, Ordering, Less, Equal, Greater, nat_cmp, refl, sym, ap, ◌∙◌, subst, T}
 use Rattle.std.proofs.lemmas.Cmp.{nat_list_cmp_total}
 use Rattle.std.specs.Cmp.Lexicographic.{slice_cmp}
 use Rattle.std.specs.FinMap.Entries.{by_order, is_sorted, is_sorted-put, put as put_entry}
@@ -10,7 +10,7 @@ use Rattle.json.specs.Lex.{tokens}
 use Rattle.serde_json.specs.Data.{Num, Data, null, boolean, number, string, array, object, Items, no_items, item, Members, no_members, member, put}
 use Rattle.serde_json.specs.Read.{number_of, of_json, of_items, of_members, max_depth, read}
 use Rattle.serde_json.specs.Find.{get, get_member}
-use Rattle.zac_archfile.specs.Entries.{list_of, is_object, objects_in}
+use Rattle.zac_archfile.specs.Entries.{list_of}
 use Rattle.zac_archfile.proofs.OnValues.{OnValue, on_none, on_some, of_some, on_map, on_then, on_any}
 
 -- the order of keys

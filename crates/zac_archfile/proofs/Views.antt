@@ -1,11 +1,10 @@
 -- Values as data: the items of arrays, the keys of objects, and the entries of a list of zones that is read item by item.
-use Rattle.std.proofs.Common.{◌≡◌, ℕ, zero, suc, ◌+◌, ◌<◌, Bool, true, false, if◌then◌else◌, List, [], ◌∷◌, ◌++◌, length, map, filter, take, get_or, not, ◌||◌, BTreeMap, true≢false, subst, Option, Some, None, option_map, String, Vec, Global, string_bytes, refl, sym, ap, ◌∙◌, arith, rules, append_assoc, append-nil}
-use Rattle.std.specs.List.{flat_map, list_all, list_any, AllByRecursion}
-use Rattle.std.proofs.lemmas.List.{map_more}
+use Rattle.std.proofs.Common.{◌≡◌, ℕ, zero, suc, ◌<◌, Bool, true, false, if◌then◌else◌, List, [], ◌∷◌, length, map, filter, get_or, not, ◌||◌, BTreeMap, true≢false, subst, Some, String, Vec, Global, string_bytes, refl, sym, ap, ◌∙◌, arith}
+use Rattle.std.specs.List.{list_all, list_any, AllByRecursion}
 use Rattle.std.proofs.lemmas.List.Folds.{list_all-map}
 use Rattle.std.specs.Map.{keys_of}
 use Rattle.serde_json.specs.Data.{Data, null, boolean, number, string, array, object}
-use Rattle.serde_json.specs.View.{view, items_of, members_of, members_view}
+use Rattle.serde_json.specs.View.{view, items_of, members_view}
 use Rattle.serde_json.specs.declared.value.Value.{Value, Array, Object}
 use Rattle.serde_json.proofs.Views.{view-Array, view-Object}
 use Rattle.zac_archfile.specs.Entries.{list_of, is_object, objects_in, member_keys, is_key_of, has_other_key}

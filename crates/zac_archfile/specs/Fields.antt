@@ -1,5 +1,5 @@
 -- The fields of a card: their names, their keys and their ranges.
-use Rattle.std.specs.Prelude.{ℕ, Bool, true, false, ◌&&◌, nat_le, List, [], ◌∷◌, ◌++◌, codes}
+use Rattle.std.specs.Prelude.{ℕ, Bool, true, false, ◌&&◌, nat_le, List, [], ◌∷◌, codes}
 use Rattle.zac_archfile.specs.declared.field.Field.{Field}
 use Rattle.zac_archfile.specs.declared.field.Field.TheVariants.{Version, Gap, Park, Reach, Radius, Accel, Activate, Deactivate, One, Pulse, Readout, Aods, Rows, Columns, Storage, StorageX, StorageY, StorageDx, StorageDy, StorageColumns, StorageRows, Entangling, EntanglingX, EntanglingY, EntanglingDx, EntanglingDy, EntanglingPair, EntanglingColumns, EntanglingRows}
 

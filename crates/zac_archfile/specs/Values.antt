@@ -1,8 +1,8 @@
 -- The JSON value of an architecture, and the architecture of a JSON value. The members of an object stand in byte order of
 -- their keys.
-use Rattle.std.specs.Prelude.{ℕ, ◌≤◌, not, List, [], ◌∷◌, ◌++◌, map, filter, codes}
+use Rattle.std.specs.Prelude.{ℕ, ◌≤◌, not, List, ◌++◌, map, filter, codes}
 use Rattle.std.specs.List.{AllByRecursion}
-use Rattle.serde_json.specs.Data.{Data, number, unsigned, array, object, Members, member, no_members}
+use Rattle.serde_json.specs.Data.{Data, number, unsigned, array, object, member, no_members}
 use Rattle.serde_json.specs.View.{items_of}
 use Rattle.zac_arch.specs.Architecture.{Architecture, is_storage}
 use Rattle.zac_arch.specs.declared.card.Figures.{Figures}

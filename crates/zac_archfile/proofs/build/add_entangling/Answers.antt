@@ -1,4 +1,4 @@
-use Rattle.std.proofs.Common.{◌∙◌, sym, ap}
+use Rattle.std.proofs.Common.{◌∙◌, sym}
 use Rattle.zac_archfile.specs.Fields.{entangling_fields}
 use Rattle.zac_archfile.specs.Values.{HasSmallNumbers}
 use Rattle.zac_archfile.proofs.Views.{object_at}

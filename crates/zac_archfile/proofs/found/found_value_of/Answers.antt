@@ -1,9 +1,8 @@
-use Rattle.std.proofs.Common.{◌≡◌, Bool, true, false, ◌∙◌, sym, ap, if◌then◌else◌, List, Vec, Global, refl}
+use Rattle.std.proofs.Common.{◌≡◌, Bool, true, false, ◌∙◌, sym, ap, if◌then◌else◌, List, Vec, Global}
 use Rattle.std.specs.List.{list_all}
-use Rattle.serde_json.specs.View.{view, items_of}
+use Rattle.serde_json.specs.View.{view}
 use Rattle.serde_json.specs.declared.value.Value.{Value, Array}
 use Rattle.serde_json.proofs.Views.{view-Array}
-use Rattle.zac_archfile.specs.declared.found.Found.{Found}
 use Rattle.zac_archfile.specs.declared.found.Found.TheVariants.{Objects, Other}
 use Rattle.zac_archfile.specs.Entries.{found_value, is_object}
 use Rattle.zac_archfile.proofs.Views.{all_objects}

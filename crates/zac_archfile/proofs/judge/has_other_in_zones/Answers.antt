@@ -1,4 +1,4 @@
-use Rattle.std.proofs.Common.{◌∙◌, sym, ap}
+use Rattle.std.proofs.Common.{◌∙◌, ap}
 use Rattle.std.specs.List.{list_any}
 use Rattle.zac_archfile.specs.Entries.{has_other_key}
 use Rattle.zac_archfile.proofs.Views.{other_key-objects}

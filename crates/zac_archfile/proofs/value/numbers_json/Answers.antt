@@ -1,4 +1,3 @@
-use Rattle.std.proofs.Common.{get_or}
 use Rattle.serde_json.specs.View.{view, members_view}
 use Rattle.zac_archfile.specs.declared.field.Field.TheVariants.{Version}
 use Rattle.zac_archfile.proofs.Written.{written_more}
