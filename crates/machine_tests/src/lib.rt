@@ -4,6 +4,8 @@
 #[cfg(test)]
 mod assignments;
 #[cfg(test)]
+mod card_texts;
+#[cfg(test)]
 mod cards;
 #[cfg(test)]
 mod common;

@@ -129,7 +129,7 @@ pub(crate) const ENTANGLING_FIELDS: [Field; 7] = [
 
 impl Field {
     /// The key that the field has in its object.
-    pub fn key(&self) -> &'static str
+    pub(crate) fn key(&self) -> &'static str
         ensures { result.now ≡ key_of self.now }
     {
         match self {

@@ -6,7 +6,7 @@
 mod build;
 pub mod fault;
 pub mod field;
-pub mod found;
+pub(crate) mod found;
 mod judge;
 pub mod laws;
 pub mod read;
