@@ -1,1 +1,5 @@
+pub mod NumbersFacts
+pub mod RowsFacts
 pub mod StagingFacts
+pub mod TopsFacts
+pub mod WalkFacts

@@ -5,6 +5,10 @@
 //! the last pulse. So pulses are ZAC's earliest stages (Lin, Tan and Cong, HPCA 2025).
 #![tactic(auto)]
 
+pub mod laws;
+mod lists;
+mod numbering;
 mod pulses;
+mod rooms;
 
 pub use pulses::{Stages, stage};

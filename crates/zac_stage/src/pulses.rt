@@ -4,6 +4,8 @@ ghost use Rattle.std.specs.Prelude.{◌≡◌, ◌+◌, ◌<◌, ◌≤◌, Some
 ghost use Rattle.std.specs.List.{slice_get};
 ghost use Rattle.zac_stage.specs.Staging.{IsStaging};
 
+use crate::lists::rows_by_number;
+use crate::numbering::numbers;
 use std::alloc::Global;
 use std::marker::Model;
 use zac_gates::Circuit;
@@ -48,7 +50,15 @@ pub fn stage(alloc: Global, circuit: &Circuit, sites: u32) -> Result<Stages<'_>,
     requires { 1 ≤ sites }
     ensures { IfOk result (λ s. IsStaging s × (s.circuit ≡ circuit.now) × (s.sites ≡ sites)) }
 {
-    Err(Memory)
+    let (numbers, pulses) = numbers(alloc, circuit, sites)?;
+    let (pairs, gates) = rows_by_number(alloc, circuit.ops(), numbers.as_slice(), pulses as usize)?;
+    Ok(Stages {
+        circuit,
+        sites,
+        numbers,
+        pairs,
+        gates,
+    })
 }
 
 impl Stages<'_> {
