@@ -4,7 +4,8 @@ use std::test::Fail;
 use zac_arch::Card;
 use zac_archfile::{CardFault, Field, card_or_one_fault, read_card, write_card};
 
-const TINY: &str = "{\"accel\":2750,\"activate\":15000,\"aods\":2,\"columns\":4,\"deactivate\":15000,\"entangling\":[{\"columns\":2,\"dx\":120,\"dy\":100,\"pair\":20,\"rows\":1,\"x\":0,\"y\":100}],\"gap\":10,\"one\":52000,\"park\":10,\"pulse\":360,\"radius\":60,\"reach\":5,\"readout\":1000000,\"rows\":4,\"storage\":[{\"columns\":4,\"dx\":30,\"dy\":30,\"rows\":1,\"x\":0,\"y\":0}],\"version\":1}";
+const TINY: &str =
+    "{\"accel\":2750,\"activate\":15000,\"aods\":2,\"columns\":4,\"deactivate\":15000,\"entangling\":[{\"columns\":2,\"dx\":120,\"dy\":100,\"pair\":20,\"rows\":1,\"x\":0,\"y\":100}],\"gap\":10,\"one\":52000,\"park\":10,\"pulse\":360,\"radius\":60,\"reach\":5,\"readout\":1000000,\"rows\":4,\"storage\":[{\"columns\":4,\"dx\":30,\"dy\":30,\"rows\":1,\"x\":0,\"y\":0}],\"version\":1}";
 
 #[test]
 fn the_tiny_card_has_its_text(rt: HostRuntime) -> Result<(), Fail> {
@@ -30,5 +31,8 @@ fn other_texts_have_a_fault(rt: HostRuntime) {
             Err(e) => assert_eq!(rt; e, fault),
         }
     }
-    assert_eq!(rt; (Field::Gap.name(), Field::StorageDx.name()), ("gap", "storage.dx"));
+    assert_eq!(rt;
+        (Field::Gap.name(), Field::StorageDx.name()),
+        ("gap", "storage.dx")
+    );
 }

@@ -11,6 +11,6 @@ pub fn card_or_one_fault()
     ensures one_card { (bytes : List ℕ) (a b : Architecture) → IsCardText bytes a → IsCardText bytes b → a ≡ b }
     ensures one_fault { (bytes : List ℕ) (e f : CardFault) → IsFault bytes e → IsFault bytes f → e ≡ f }
     ensures not_both { (bytes : List ℕ) (a : Architecture) (e : CardFault) → IsCardText bytes a → ¬ IsFault bytes e }
-    ensures either { (bytes : List ℕ) → ((a : Architecture) × IsCardText bytes a) ⊎ ((e : CardFault) × IsFault bytes e) }
+    ensures some { (bytes : List ℕ) → ((a : Architecture) × IsCardText bytes a) ⊎ ((e : CardFault) × IsFault bytes e) }
     ensures rule { (bytes : List ℕ) (n : ℕ) → IsFault bytes (CardFault.Invalid n) → (1 ≤ n) × (n ≤ 6) }
 {}
