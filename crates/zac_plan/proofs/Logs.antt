@@ -1,15 +1,18 @@
--- The log of the plan: the gates in source order, and then the reads.
-use Rattle.std.proofs.Common.{◌≡◌, ℕ, ◌+◌, List, [], ◌∷◌, ◌++◌, Option, Some, None, refl, sym, ap, ◌∙◌, map, append_assoc, append-nil}
-use Rattle.std.specs.List.{flat_map}
-use Rattle.std.specs.Prelude.{filter}
+-- The log of a plan: the entries of the ops of its slots and pulses in turn, and then of the reads.
+use Rattle.std.proofs.Common.{◌≡◌, ◌≢◌, ℕ, ◌+◌, Bool, true, false, cond, List, [], ◌∷◌, ◌++◌, Option, Some, None, IsTrue, length, refl, sym, ap, ◌∙◌, subst, map, append_assoc, append-nil, slice_get}
+use Rattle.std.specs.List.{AllByRecursion, AllPairs, Contains, cons_option, filter, filter_map, flat_map, range_with_len}
+use Rattle.std.specs.Option.{option_and_then, option_map}
 use Rattle.std.proofs.lemmas.Grind.{flat_map-append}
 use Rattle.std.proofs.lemmas.List.{map-append}
+use Rattle.std.proofs.lemmas.List.Elements.{filter_map-append}
 use Rattle.zac_arch.specs.Architecture.{Architecture}
-use Rattle.zac_gates.specs.Ops.{is_gate, is_read}
-use Rattle.zac_gates.specs.Log.{Entry, entries_from, gates_then_reads}
+use Rattle.zac_gates.specs.Ops.{is_read}
+use Rattle.zac_gates.specs.Log.{Entry}
 use Rattle.zac_gates.specs.declared.circuit.Op.{Op}
 use Rattle.zac_gates.specs.declared.circuit.Op.TheVariants as op
+use Rattle.zac_stage.specs.Numbers.{is_one, is_pair}
 use Rattle.zair_form.specs.declared.step.OneGate.{OneGate}
+use Rattle.zair_form.specs.declared.step.PairOf.{PairOf}
 use Rattle.zair_form.specs.declared.step.ReadOf.{ReadOf}
 use Rattle.zair_form.specs.declared.step.Step.{Step}
 use Rattle.zair_form.specs.declared.step.Step.TheVariants.{One}
@@ -17,78 +20,162 @@ use Rattle.zair_form.specs.declared.program.Act.{Act}
 use Rattle.zair_form.specs.declared.program.Act.TheVariants.{Rydberg}
 use Rattle.zair_form.specs.Steps.{steps_of}
 use Rattle.zair_machine.specs.Run.{entries, log_of}
-use Rattle.zac_plan.specs.Plan.{arrivals, returns, gates_of, readout_of, acts_from}
+use Rattle.zac_plan.specs.declared.shift.Shift.{Shift}
+use Rattle.zac_plan.specs.Plan.{arrivals, returns, carries, gate_of, pair_of, read_of, gates_at, pairs_at, reads_in, gates_act, reads_act, acts_from}
 
 -- the log of what instructions do, one after another
 abbrev pub acts_log : List Act → List Entry
 acts_log acts = log_of (flat_map (λ act. steps_of act) acts)
 
-pub log_of-append : (xs ys : List Step) → log_of (xs ++ ys) ≡ log_of xs ++ log_of ys
+log_of-append : (xs ys : List Step) → log_of (xs ++ ys) ≡ log_of xs ++ log_of ys
 log_of-append xs ys = flat_map-append (λ s. entries s) xs ys
 
-pub acts_log-append : (xs ys : List Act) → acts_log (xs ++ ys) ≡ acts_log xs ++ acts_log ys
+acts_log-append : (xs ys : List Act) → acts_log (xs ++ ys) ≡ acts_log xs ++ acts_log ys
 acts_log-append xs ys =
     ap log_of (flat_map-append (λ act. steps_of act) xs ys)
     ∙ log_of-append (flat_map (λ act. steps_of act) xs) (flat_map (λ act. steps_of act) ys)
 
+-- the entry of an op of this number
+abbrev pub entry : ℕ → Op → Entry
+entry n what = record { op = n; what = what }
+
+-- the entries of the ops of these numbers
+abbrev pub entries_at : List Op → List ℕ → List Entry
+entries_at ops numbers = filter_map (λ n. option_map (entry n) (slice_get ops n)) numbers
+
+-- the numbers of slots and pulses in turn
+abbrev pub in_turn : List (List ℕ) → List (List ℕ) → List ℕ
+in_turn [] pulses = []
+in_turn (slot ∷ slots) [] = slot ++ in_turn slots []
+in_turn (slot ∷ slots) (pulse ∷ pulses) = slot ++ (pulse ++ in_turn slots pulses)
+
+-- each number is that of a one-qubit gate, or of a pair
+abbrev pub AreOnes : List Op → List ℕ → Type 0
+AreOnes ops numbers = AllByRecursion (λ n. IsTrue (is_one (slice_get ops n))) numbers
+
+abbrev pub ArePairs : List Op → List ℕ → Type 0
+ArePairs ops numbers = AllByRecursion (λ n. IsTrue (is_pair (slice_get ops n))) numbers
+
 abbrev ones_log : List OneGate → List Entry
 ones_log ones = log_of (map (λ gate. One gate) ones)
+
+abbrev pairs_log : List PairOf → List Entry
+pairs_log pairs = map (λ p. record { op = p.op; what = op.Two p.a p.b }) pairs
 
 abbrev reads_log : List ReadOf → List Entry
 reads_log reads = map (λ r. record { op = r.op; what = op.Read r.q r.bit }) reads
 
-gates_log : (ones : List OneGate) → acts_log (gates_of ones) ≡ ones_log ones
-gates_log [] = refl
-gates_log (g ∷ gs) = ap log_of (append-nil (map (λ gate. One gate) (g ∷ gs)))
+gates_act_log : (ones : List OneGate) → acts_log (gates_act ones) ≡ ones_log ones
+gates_act_log [] = refl
+gates_act_log (g ∷ gs) = ap log_of (append-nil (map (λ gate. One gate) (g ∷ gs)))
 
-readout_log : (reads : List ReadOf) → acts_log (readout_of reads) ≡ reads_log reads
-readout_log [] = refl
-readout_log (r ∷ rs) = append-nil (reads_log (r ∷ rs))
+reads_act_log : (reads : List ReadOf) → acts_log (reads_act reads) ≡ reads_log reads
+reads_act_log [] = refl
+reads_act_log (r ∷ rs) = append-nil (reads_log (r ∷ rs))
 
-returns_log : (a : Architecture) (at_site : Option (ℕ × ℕ)) → acts_log (returns a at_site) ≡ []
-returns_log a None = refl
-returns_log a (Some pair) = refl
+carries_log : (a : Architecture) (shifts : List Shift) → acts_log (carries a shifts) ≡ []
+carries_log a [] = refl
+carries_log a (s ∷ ss) = carries_log a ss
 
-ones_log-push : (ones : List OneGate) (g : OneGate) → ones_log (ones ++ g ∷ []) ≡ ones_log ones ++ (record { op = g.op; what = op.One g.q g.angles }) ∷ []
-ones_log-push ones g =
-    ap log_of (map-append (λ gate. One gate) ones (g ∷ []))
-    ∙ log_of-append (map (λ gate. One gate) ones) (One g ∷ [])
+no_true : false ≡ true → ⊥
+no_true e = cc
 
--- of the ops from number k on, the gates, and the reads
-abbrev gates_from : ℕ → List Op → List Entry
-gates_from k ops = filter (λ e. is_gate e.what) (entries_from k ops)
+-- the log of a slot
+slot_entry : (n : ℕ) (o : Option Op) (gs : List OneGate) (es : List Entry) → IsTrue (is_one o) → ones_log gs ≡ es →
+    ones_log (cons_option (option_and_then (gate_of n) o) gs) ≡ cons_option (option_map (entry n) o) es
+slot_entry n None gs es h e = absurd (no_true h)
+slot_entry n (Some (op.One q angles)) gs es h e = ap (λ (l : List Entry). entry n (op.One q angles) ∷ l) e
+slot_entry n (Some (op.Two q r)) gs es h e = absurd (no_true h)
+slot_entry n (Some op.Fence) gs es h e = absurd (no_true h)
+slot_entry n (Some (op.Read q bit)) gs es h e = absurd (no_true h)
 
-abbrev reads_from : ℕ → List Op → List Entry
-reads_from k ops = filter (λ e. is_read e.what) (entries_from k ops)
+slot_log : (ops : List Op) (numbers : List ℕ) → AreOnes ops numbers → ones_log (gates_at ops numbers) ≡ entries_at ops numbers
+slot_log ops [] h = refl
+slot_log ops (n ∷ ns) h = slot_entry n (slice_get ops n) (gates_at ops ns) (entries_at ops ns) h.0 (slot_log ops ns h.1)
 
-log_from : (a : Architecture) (k : ℕ) (at_site : Option (ℕ × ℕ)) (ones : List OneGate) (reads : List ReadOf) (ops : List Op) →
-    acts_log (acts_from a k at_site ones reads ops) ≡ ones_log ones ++ (gates_from k ops ++ (reads_log reads ++ reads_from k ops))
-log_from a k at_site ones reads [] =
-    acts_log-append (gates_of ones) (readout_of reads)
-    ∙ ap (λ (l : List Entry). l ++ acts_log (readout_of reads)) (gates_log ones)
-    ∙ ap (λ (l : List Entry). ones_log ones ++ l) (readout_log reads ∙ sym (append-nil (reads_log reads)))
-log_from a k at_site ones reads (op.One q angles ∷ ops) =
-    let g : OneGate = record { op = k; q = q; angles = angles } in
-    log_from a (k + 1) at_site (ones ++ g ∷ []) reads ops
-    ∙ ap (λ (l : List Entry). l ++ (gates_from (k + 1) ops ++ (reads_log reads ++ reads_from (k + 1) ops))) (ones_log-push ones g)
-    ∙ append_assoc (ones_log ones) (record { op = k; what = op.One q angles } ∷ []) (gates_from (k + 1) ops ++ (reads_log reads ++ reads_from (k + 1) ops))
-log_from a k at_site ones reads (op.Two q r ∷ ops) =
-    let rest : List Act = Rydberg (record { op = k; a = q; b = r } ∷ []) ∷ acts_from a (k + 1) (Some (q, r)) [] reads ops in
-    acts_log-append (gates_of ones) (returns a at_site ++ (arrivals a q r ++ rest))
-    ∙ ap (λ (l : List Entry). l ++ acts_log (returns a at_site ++ (arrivals a q r ++ rest))) (gates_log ones)
-    ∙ ap (λ (l : List Entry). ones_log ones ++ l)
-    (acts_log-append (returns a at_site) (arrivals a q r ++ rest)
-    ∙ ap (λ (l : List Entry). l ++ acts_log (arrivals a q r ++ rest)) (returns_log a at_site)
-    ∙ acts_log-append (arrivals a q r) rest
-    ∙ ap (λ (l : List Entry). record { op = k; what = op.Two q r } ∷ l) (log_from a (k + 1) (Some (q, r)) [] reads ops))
-log_from a k at_site ones reads (op.Fence ∷ ops) = log_from a (k + 1) at_site ones reads ops
-log_from a k at_site ones reads (op.Read q bit ∷ ops) =
-    let r : ReadOf = record { op = k; q = q; bit = bit } in
-    let e : Entry = record { op = k; what = op.Read q bit } in
-    log_from a (k + 1) at_site ones (reads ++ r ∷ []) ops
-    ∙ ap (λ (l : List Entry). ones_log ones ++ (gates_from (k + 1) ops ++ (l ++ reads_from (k + 1) ops))) (map-append (λ (r : ReadOf). record { op = r.op; what = op.Read r.q r.bit }) reads (r ∷ []))
-    ∙ ap (λ (l : List Entry). ones_log ones ++ (gates_from (k + 1) ops ++ l)) (append_assoc (reads_log reads) (e ∷ []) (reads_from (k + 1) ops))
+-- the log of a pulse
+pulse_entry : (n : ℕ) (o : Option Op) (ps : List PairOf) (es : List Entry) → IsTrue (is_pair o) → pairs_log ps ≡ es →
+    pairs_log (cons_option (option_and_then (pair_of n) o) ps) ≡ cons_option (option_map (entry n) o) es
+pulse_entry n None ps es h e = absurd (no_true h)
+pulse_entry n (Some (op.One q angles)) ps es h e = absurd (no_true h)
+pulse_entry n (Some (op.Two q r)) ps es h e = ap (λ (l : List Entry). entry n (op.Two q r) ∷ l) e
+pulse_entry n (Some op.Fence) ps es h e = absurd (no_true h)
+pulse_entry n (Some (op.Read q bit)) ps es h e = absurd (no_true h)
+
+pulse_log : (ops : List Op) (numbers : List ℕ) → ArePairs ops numbers → pairs_log (pairs_at ops numbers) ≡ entries_at ops numbers
+pulse_log ops [] h = refl
+pulse_log ops (n ∷ ns) h = pulse_entry n (slice_get ops n) (pairs_at ops ns) (entries_at ops ns) h.0 (pulse_log ops ns h.1)
+
+-- the op, if there is one, is a read
+abbrev pub is_read_op : Option Op → Bool
+is_read_op None = false
+is_read_op (Some (op.One q angles)) = false
+is_read_op (Some (op.Two q r)) = false
+is_read_op (Some op.Fence) = false
+is_read_op (Some (op.Read q bit)) = true
+
+-- the numbers of the reads among these
+abbrev pub reads_among : List Op → List ℕ → List ℕ
+reads_among ops numbers = filter (λ n. is_read_op (slice_get ops n)) numbers
+
+abbrev reads_at : List Op → List ℕ → List ReadOf
+reads_at ops numbers = filter_map (λ n. option_and_then (read_of n) (slice_get ops n)) numbers
+
+read_entry : (ops : List Op) (n : ℕ) (o : Option Op) (rs : List ReadOf) (ns : List ℕ) → slice_get ops n ≡ o → reads_log rs ≡ entries_at ops ns →
+    reads_log (cons_option (option_and_then (read_of n) o) rs) ≡ entries_at ops (cond (is_read_op o) (n ∷ ns) ns)
+read_entry ops n None rs ns at e = e
+read_entry ops n (Some (op.One q angles)) rs ns at e = e
+read_entry ops n (Some (op.Two q r)) rs ns at e = e
+read_entry ops n (Some op.Fence) rs ns at e = e
+read_entry ops n (Some (op.Read q bit)) rs ns at e =
+    ap (λ (l : List Entry). entry n (op.Read q bit) ∷ l) e
+    ∙ ap (λ (o : Option Op). cons_option (option_map (entry n) o) (entries_at ops ns)) (sym at)
+
+readout_log : (ops : List Op) (numbers : List ℕ) → reads_log (reads_at ops numbers) ≡ entries_at ops (reads_among ops numbers)
+readout_log ops [] = refl
+readout_log ops (n ∷ ns) = read_entry ops n (slice_get ops n) (reads_at ops ns) (reads_among ops ns) refl (readout_log ops ns)
+
+entries_at-append : (ops : List Op) (ms ns : List ℕ) → entries_at ops (ms ++ ns) ≡ entries_at ops ms ++ entries_at ops ns
+entries_at-append ops ms ns = filter_map-append (λ n. option_map (entry n) (slice_get ops n)) ms ns
+
+-- the log of the rounds of a plan
+pub rounds_log : (a : Architecture) (ops : List Op) (before : List PairOf) (slots pulses : List (List ℕ)) →
+    AllByRecursion (AreOnes ops) slots → AllByRecursion (ArePairs ops) pulses → acts_log (acts_from a ops before slots pulses) ≡ entries_at ops (in_turn slots pulses)
+rounds_log a ops before [] pulses ones pairs = refl
+rounds_log a ops before (slot ∷ slots) [] ones pairs =
+    acts_log-append (gates_act (gates_at ops slot)) (acts_from a ops before slots [])
+    ∙ ap (λ (l : List Entry). l ++ acts_log (acts_from a ops before slots [])) (gates_act_log (gates_at ops slot) ∙ slot_log ops slot ones.0)
+    ∙ ap (λ (l : List Entry). entries_at ops slot ++ l) (rounds_log a ops before slots [] ones.1 tt)
+    ∙ sym (entries_at-append ops slot (in_turn slots []))
+rounds_log a ops before (slot ∷ slots) (pulse ∷ pulses) ones pairs =
+    let these : List PairOf = pairs_at ops pulse in
+    let rest : List Act = acts_from a ops these slots pulses in
+    let from_pulse : acts_log (Rydberg these ∷ rest) ≡ entries_at ops (pulse ++ in_turn slots pulses) =
+    ap (λ (l : List Entry). l ++ acts_log rest) (pulse_log ops pulse pairs.0)
+    ∙ ap (λ (l : List Entry). entries_at ops pulse ++ l) (rounds_log a ops these slots pulses ones.1 pairs.1)
+    ∙ sym (entries_at-append ops pulse (in_turn slots pulses)) in
+    let from_arrivals : acts_log (carries a (arrivals a these) ++ Rydberg these ∷ rest) ≡ entries_at ops (pulse ++ in_turn slots pulses) =
+    acts_log-append (carries a (arrivals a these)) (Rydberg these ∷ rest)
+    ∙ ap (λ (l : List Entry). l ++ acts_log (Rydberg these ∷ rest)) (carries_log a (arrivals a these))
+    ∙ from_pulse in
+    let from_returns : acts_log (carries a (returns a before) ++ (carries a (arrivals a these) ++ Rydberg these ∷ rest)) ≡ entries_at ops (pulse ++ in_turn slots pulses) =
+    acts_log-append (carries a (returns a before)) (carries a (arrivals a these) ++ Rydberg these ∷ rest)
+    ∙ ap (λ (l : List Entry). l ++ acts_log (carries a (arrivals a these) ++ Rydberg these ∷ rest)) (carries_log a (returns a before))
+    ∙ from_arrivals in
+    acts_log-append (gates_act (gates_at ops slot)) (carries a (returns a before) ++ (carries a (arrivals a these) ++ Rydberg these ∷ rest))
+    ∙ ap (λ (l : List Entry). l ++ acts_log (carries a (returns a before) ++ (carries a (arrivals a these) ++ Rydberg these ∷ rest))) (gates_act_log (gates_at ops slot) ∙ slot_log ops slot ones.0)
+    ∙ ap (λ (l : List Entry). entries_at ops slot ++ l) from_returns
+    ∙ sym (entries_at-append ops slot (pulse ++ in_turn slots pulses))
+
+-- the numbers of a plan's ops in the order in which they are performed
+abbrev pub performed : List Op → List (List ℕ) → List (List ℕ) → List ℕ
+performed ops slots pulses = in_turn slots pulses ++ reads_among ops (range_with_len 0 (length ops))
 
 -- the log of the whole plan
-pub plan_log : (a : Architecture) (ops : List Op) → acts_log (acts_from a 0 None [] [] ops) ≡ gates_then_reads ops
-plan_log a ops = log_from a 0 None [] [] ops
+pub plan_log : (a : Architecture) (ops : List Op) (slots pulses : List (List ℕ)) → AllByRecursion (AreOnes ops) slots → AllByRecursion (ArePairs ops) pulses →
+    acts_log (acts_from a ops [] slots pulses ++ reads_act (reads_in ops)) ≡ entries_at ops (performed ops slots pulses)
+plan_log a ops slots pulses ones pairs =
+    acts_log-append (acts_from a ops [] slots pulses) (reads_act (reads_in ops))
+    ∙ ap (λ (l : List Entry). l ++ acts_log (reads_act (reads_in ops))) (rounds_log a ops [] slots pulses ones pairs)
+    ∙ ap (λ (l : List Entry). entries_at ops (in_turn slots pulses) ++ l) (reads_act_log (reads_in ops) ∙ readout_log ops (range_with_len 0 (length ops)))
+    ∙ sym (entries_at-append ops (in_turn slots pulses) (reads_among ops (range_with_len 0 (length ops))))

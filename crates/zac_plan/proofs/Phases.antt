@@ -1,23 +1,20 @@
--- The phases between pulses: returns and arrivals lead from one state at rest to the next.
-use Rattle.std.proofs.Common.{◌≡◌, ◌≢◌, ℕ, ◌<◌, ◌≤◌, inl, inr, List, [], ◌∷◌, ◌++◌, Option, Some, None, set, refl, sym, ap, ◌∙◌, subst, arith, slice_get, min, max}
+-- Phases: shifts one after another lead from one state at rest to the next.
+use Rattle.std.proofs.Common.{◌≡◌, ◌≢◌, ℕ, ◌<◌, ◌⊎◌, inl, inr, List, [], ◌∷◌, ◌++◌, Some, get_or, set, map, refl, sym, ap, ◌∙◌, subst, arith, slice_get}
+use Rattle.std.specs.List.{AllPairs, Contains, flat_map}
 use Rattle.std.proofs.lemmas.Bool.{cases_eq}
-use Rattle.std.proofs.lemmas.List.FromFn.{length-map-range_with_len, get_or-map-range_with_len}
-use Rattle.std.proofs.lemmas.Option.{slice_get_within, slice_get-get_or}
-use Rattle.zac_arch.specs.Architecture.{Architecture, trap_count, storage_count, right_trap}
+use Rattle.std.proofs.lemmas.List.Elements.{Contains-get_or}
+use Rattle.zac_arch.specs.Architecture.{Architecture}
 use Rattle.zac_arch.specs.Rules.{KeepsRules}
 use Rattle.zac_arch.specs.declared.place.TrapId.{TrapId}
-use Rattle.zac_arch.proofs.Geometry.{site_count_least, trap_count_is}
-use Rattle.zair_form.specs.declared.step.PairOf.{PairOf}
 use Rattle.zair_form.specs.declared.step.Step.{Step}
-use Rattle.zair_form.specs.declared.step.Step.TheVariants.{Pulse}
+use Rattle.zair_form.specs.Steps.{steps_of}
 use Rattle.zair_machine.specs.State.{State, opening}
-use Rattle.zair_machine.specs.Legal.{IsPairOf}
 use Rattle.zair_machine.specs.Result.{after}
 use Rattle.zair_machine.specs.Run.{IsLegalRun, after_all}
-use Rattle.zac_plan.specs.Plan.{home, homes_for, left, right, carry_steps}
-use Rattle.zac_plan.proofs.Lists.{slice_get-set_same, slice_get-set_other, set-set_same, set-set_other, set-slice_get}
-use Rattle.zac_plan.proofs.Pulse.{pulse_rests}
-use Rattle.zac_plan.proofs.Rests.{LeadsTo, carry_rests}
+use Rattle.zac_plan.specs.declared.shift.Shift.{Shift}
+use Rattle.zac_plan.specs.Plan.{back, carries, carry_steps}
+use Rattle.zac_plan.proofs.Lists.{contained_in_none, contains_cases, contains_here, contains_later, contained_in_map, contains_map, pairs_head, pairs_tail, pairs_map, same_places, slice_get-set_same, slice_get-set_other}
+use Rattle.zac_plan.proofs.Rests.{CanShift, LeadsTo, carry_rests}
 
 pub legal-append : (a : Architecture) (s : State) (xs ys : List Step) → IsLegalRun a s xs → IsLegalRun a (after_all s xs) ys → IsLegalRun a s (xs ++ ys)
 legal-append a s [] ys h k = k
@@ -27,7 +24,7 @@ pub after-append : (s : State) (xs ys : List Step) → after_all s (xs ++ ys) �
 after-append s [] ys = refl
 after-append s (x ∷ xs) ys = after-append (after s x) xs ys
 
--- one phase after another
+-- one part after another
 pub leads-append : (a : Architecture) (t u v : List TrapId) (xs ys : List Step) → LeadsTo a t xs u → LeadsTo a u ys v → LeadsTo a t (xs ++ ys) v
 leads-append a t u v xs ys h k = record {
   legal = legal-append a (opening a t) xs ys h.legal (subst (λ (s : State). IsLegalRun a s ys) (sym h.leaves) k.legal);
@@ -37,112 +34,156 @@ leads-append a t u v xs ys h k = record {
 pub leads_nowhere : (a : Architecture) (t : List TrapId) → LeadsTo a t [] t
 leads_nowhere a t = record { legal = tt; leaves = refl }
 
--- homes are the traps of the qubits' own numbers
-pub home_of : (n q : ℕ) → q < n → slice_get (homes_for n) q ≡ Some (home q)
-home_of n q within =
-    slice_get-get_or (homes_for n) q (home 0) (omega (arith, length-map-range_with_len home 0 n))
-    ∙ ap (λ (t : TrapId). Some t) (get_or-map-range_with_len home 0 n q q (home 0) within (omega arith))
+-- where atoms rest after shifts
+abbrev pub after_shifts : List TrapId → List Shift → List TrapId
+after_shifts traps [] = traps
+after_shifts traps (s ∷ ss) = after_shifts (set traps s.q s.to) ss
 
-pub home_is : (n q : ℕ) (t : TrapId) → slice_get (homes_for n) q ≡ Some t → (q < n) × (t.0 ≡ q)
-home_is n q t h =
-    let within : q < n = omega (arith, slice_get_within (homes_for n) q t h, length-map-range_with_len home 0 n) in
-    let same : Some t ≡ Some (home q) = sym h ∙ home_of n q within in
-    let t_is : t ≡ home q = cc in
-    (within, ap (λ (x : TrapId). x.0) t_is)
+-- A phase from where atoms rest: each shift can be made, no atom is shifted twice, and no two go to one trap.
+pub record IsPhase (a : Architecture) (traps : List TrapId) (shifts : List Shift) : Type 0 where
+  pub each : (s : Shift) → Contains shifts s → CanShift a traps s
+  pub atoms : AllPairs (λ s t. s.q ≢ t.q) shifts
+  pub targets : AllPairs (λ s t. s.to ≢ t.to) shifts
 
--- where the atoms rest while this pair is at site 0
-abbrev pub rests_with : Architecture → ℕ → Option (ℕ × ℕ) → List TrapId
-rests_with a n None = homes_for n
-rests_with a n (Some pair) = set (set (homes_for n) (min pair.0 pair.1) (left a)) (max pair.0 pair.1) (right a)
+-- two equal options
+some_same : (t u : TrapId) → Some t ≡ Some u → t ≡ u
+some_same t u e = cc
 
--- two different qubits
-abbrev pub IsPair : ℕ → Option (ℕ × ℕ) → Type 0
-IsPair n None = Unit {0}
-IsPair n (Some pair) = (pair.0 < n) × (pair.1 < n) × (pair.0 ≢ pair.1)
+-- the first shift of a phase leaves a phase
+phase_tail : (a : Architecture) (traps : List TrapId) (s : Shift) (ss : List Shift) → IsPhase a traps (s ∷ ss) → IsPhase a (set traps s.q s.to) ss
+phase_tail a traps s ss phase = record {
+  each = λ t in_rest.
+      let first = phase.each s (contains_here s ss) in
+      let can = phase.each t (contains_later s t ss in_rest) in
+      let other : s.q ≢ t.q = pairs_head (λ (x y : Shift). x.q ≢ y.q) s ss phase.atoms t in_rest in
+      let elsewhere : s.to ≢ t.to = pairs_head (λ (x y : Shift). x.to ≢ y.to) s ss phase.targets t in_rest in
+      record {
+        rests = slice_get-set_other traps s.q t.q s.to (λ e. other (sym e)) ∙ can.rests;
+        empty = λ k e. elim (cases_eq k s.q) as (λ _. ⊥) [
+          | inl same ↦
+              let there = slice_get-set_same traps s.q s.from s.to first.rests in
+              elsewhere (some_same s.to t.to (sym there ∙ ap (slice_get (set traps s.q s.to)) (sym same) ∙ e))
+          | inr differ ↦ can.empty k (sym (slice_get-set_other traps s.q k s.to differ) ∙ e)
+        ];
+        from_in = can.from_in;
+        to_in = can.to_in;
+      };
+  atoms = pairs_tail (λ (x y : Shift). x.q ≢ y.q) s ss phase.atoms;
+  targets = pairs_tail (λ (x y : Shift). x.to ≢ y.to) s ss phase.targets;
+}
 
--- different traps
-apart : (t u : TrapId) → t.0 ≢ u.0 → Some t ≢ Some u
-apart t u ne e = let same : t ≡ u = cc in ne (ap (λ (x : TrapId). x.0) same)
+-- the jobs of a phase are legal, and lead to where its atoms rest then
+pub phase_leads : (a : Architecture) → KeepsRules a → (traps : List TrapId) (shifts : List Shift) → IsPhase a traps shifts →
+    LeadsTo a traps (flat_map (λ act. steps_of act) (carries a shifts)) (after_shifts traps shifts)
+phase_leads a rules traps [] phase = leads_nowhere a traps
+phase_leads a rules traps (s ∷ ss) phase =
+    leads-append a traps (set traps s.q s.to) (after_shifts (set traps s.q s.to) ss) (carry_steps a s) (flat_map (λ act. steps_of act) (carries a ss))
+    (carry_rests a rules traps s (phase.each s (contains_here s ss)))
+    (phase_leads a rules (set traps s.q s.to) ss (phase_tail a traps s ss phase))
 
-module _ (a : Architecture) (rules : KeepsRules a) (n : ℕ) (fit : n ≤ storage_count a) (lo hi : ℕ)
-    (lo_in : lo < n) (hi_in : hi < n) (two : lo ≢ hi) where
-  storage_in : (q : ℕ) → q < n → q < trap_count a
-  storage_in q h = omega (arith, trap_count_is a rules)
+-- an atom that no shift names stays
+pub after_shifts-other : (traps : List TrapId) (shifts : List Shift) (k : ℕ) → ((s : Shift) → Contains shifts s → s.q ≢ k) →
+    slice_get (after_shifts traps shifts) k ≡ slice_get traps k
+after_shifts-other traps [] k none = refl
+after_shifts-other traps (s ∷ ss) k none =
+    after_shifts-other (set traps s.q s.to) ss k (λ t in_rest. none t (contains_later s t ss in_rest))
+    ∙ slice_get-set_other traps s.q k s.to (λ e. none s (contains_here s ss) (sym e))
 
-  site_in : right_trap a 0 < trap_count a
-  site_in = omega (arith, trap_count_is a rules, site_count_least a rules)
+-- an atom that is shifted rests in its target
+pub after_shifts-there : (traps : List TrapId) (shifts : List Shift) (s : Shift) (from : TrapId) → AllPairs (λ s t. s.q ≢ t.q) shifts →
+    Contains shifts s → slice_get traps s.q ≡ Some from → slice_get (after_shifts traps shifts) s.q ≡ Some s.to
+after_shifts-there traps [] s from apart listed rests = absurd (contained_in_none s listed)
+after_shifts-there traps (t ∷ ts) s from apart listed rests =
+    elim (contains_cases t s ts listed) [
+      | inl same ↦
+          subst (λ (x : Shift). slice_get (after_shifts (set traps t.q t.to) ts) x.q ≡ Some x.to) same
+          (after_shifts-other (set traps t.q t.to) ts t.q (λ u in_rest e. pairs_head (λ (x y : Shift). x.q ≢ y.q) t ts apart u in_rest (sym e))
+          ∙ slice_get-set_same traps t.q from t.to (subst (λ (x : Shift). slice_get traps x.q ≡ Some from) (sym same) rests))
+      | inr later ↦
+          let other : t.q ≢ s.q = pairs_head (λ (x y : Shift). x.q ≢ y.q) t ts apart s later in
+          after_shifts-there (set traps t.q t.to) ts s from (pairs_tail (λ (x y : Shift). x.q ≢ y.q) t ts apart) later
+          (slice_get-set_other traps t.q s.q t.to (λ e. other (sym e)) ∙ rests)
+    ]
 
-  -- the smaller qubit has arrived
-  first_arrives : LeadsTo a (homes_for n) (carry_steps a lo (home lo) (left a)) (set (homes_for n) lo (left a))
-  first_arrives = carry_rests a rules (homes_for n) lo (home lo) (left a) (storage_in lo lo_in) (omega (arith, site_in)) (home_of n lo lo_in)
-      (λ k e. absurd (omega (arith, home_is n k (left a) e, fit)))
+-- some shift names the qubit, or none does
+pub named_or_not : (shifts : List Shift) (k : ℕ) → ((s : Shift) × Contains shifts s × (s.q ≡ k)) ⊎ ((s : Shift) → Contains shifts s → s.q ≢ k)
+named_or_not [] k = inr (λ s listed. absurd (contained_in_none s listed))
+named_or_not (s ∷ ss) k = elim (cases_eq s.q k) [
+  | inl same ↦ inl (s, contains_here s ss, same)
+  | inr differ ↦ elim (named_or_not ss k) [
+    | inl found ↦ inl (found.0, contains_later s found.0 ss found.1, found.2)
+    | inr none ↦ inr (λ t listed e. elim (contains_cases s t ss listed) [
+      | inl same ↦ differ (ap (λ (x : Shift). x.q) same ∙ e)
+      | inr later ↦ none t later e
+    ])
+  ]
+]
 
-  second_arrives : LeadsTo a (set (homes_for n) lo (left a)) (carry_steps a hi (home hi) (right a)) (set (set (homes_for n) lo (left a)) hi (right a))
-  second_arrives = carry_rests a rules (set (homes_for n) lo (left a)) hi (home hi) (right a) (storage_in hi hi_in) site_in
-      (slice_get-set_other (homes_for n) lo hi (left a) (λ e. two (sym e)) ∙ home_of n hi hi_in)
-      (λ k e. elim (cases_eq k lo) as (λ _. ⊥) [
-        | inl same ↦ apart (left a) (right a) (omega arith) (sym (ap (λ m. slice_get (set (homes_for n) lo (left a)) m) same ∙ slice_get-set_same (homes_for n) lo (home lo) (left a) (home_of n lo lo_in)) ∙ e)
-        | inr ne ↦ absurd (omega (arith, home_is n k (right a) (sym (slice_get-set_other (homes_for n) lo k (left a) ne) ∙ e), fit))
-      ])
+-- no two atoms rest in one trap
+abbrev pub RestApart : List TrapId → Type 0
+RestApart traps = (i j : ℕ) (t : TrapId) → slice_get traps i ≡ Some t → slice_get traps j ≡ Some t → i ≡ j
 
-  lo_at_left : slice_get (set (set (homes_for n) lo (left a)) hi (right a)) lo ≡ Some (left a)
-  lo_at_left = slice_get-set_other (set (homes_for n) lo (left a)) hi lo (right a) two ∙ slice_get-set_same (homes_for n) lo (home lo) (left a) (home_of n lo lo_in)
+-- The way back of a phase.
+module _ (a : Architecture) (traps : List TrapId) (shifts : List Shift) (apart : RestApart traps) (phase : IsPhase a traps shifts) where
+  -- a trap that a shift has left is empty
+  left_empty : (s : Shift) → Contains shifts s → (k : ℕ) → slice_get (after_shifts traps shifts) k ≢ Some s.from
+  left_empty s listed k e = elim (named_or_not shifts k) as (λ _. ⊥) [
+    | inl found ↦
+        let t = found.0 in
+        let can = phase.each t found.1 in
+        let there = after_shifts-there traps shifts t t.from phase.atoms found.1 can.rests in
+        let target : t.to ≡ s.from = some_same t.to s.from (sym there ∙ ap (slice_get (after_shifts traps shifts)) found.2 ∙ e) in
+        can.empty s.q ((phase.each s listed).rests ∙ ap (λ (x : TrapId). Some x) (sym target))
+    | inr none ↦
+        let here : slice_get traps k ≡ Some s.from = sym (after_shifts-other traps shifts k none) ∙ e in
+        none s listed (sym (apart k s.q s.from here (phase.each s listed).rests))
+  ]
 
-  hi_at_right : slice_get (set (set (homes_for n) lo (left a)) hi (right a)) hi ≡ Some (right a)
-  hi_at_right = slice_get-set_same (set (homes_for n) lo (left a)) hi (home hi) (right a) (slice_get-set_other (homes_for n) lo hi (left a) (λ e. two (sym e)) ∙ home_of n hi hi_in)
+  can_return : (s : Shift) → Contains shifts s → CanShift a (after_shifts traps shifts) (back s)
+  can_return s listed =
+      let can = phase.each s listed in
+      record {
+        rests = after_shifts-there traps shifts s s.from phase.atoms listed can.rests;
+        empty = left_empty s listed;
+        from_in = can.to_in;
+        to_in = can.from_in;
+      }
 
-  -- the others rest in their homes
-  others : (k : ℕ) (t : TrapId) → slice_get (set (set (homes_for n) lo (left a)) hi (right a)) k ≡ Some t → k ≢ lo → k ≢ hi → (k < n) × (t.0 ≡ k)
-  others k t e ne ne' = home_is n k t (sym (slice_get-set_other (set (homes_for n) lo (left a)) hi k (right a) ne' ∙ slice_get-set_other (homes_for n) lo k (left a) ne) ∙ e)
+  sources_apart : AllPairs (λ (s t : Shift). s.from ≢ t.from) shifts
+  sources_apart i j d before within e =
+      let s = get_or shifts i d in
+      let t = get_or shifts j d in
+      let s_in : Contains shifts s = Contains-get_or shifts i d (omega arith) in
+      let t_in : Contains shifts t = Contains-get_or shifts j d within in
+      let s_rests = (phase.each s s_in).rests in
+      let t_rests = (phase.each t t_in).rests in
+      phase.atoms i j d before within (apart s.q t.q s.from s_rests (t_rests ∙ ap (λ (x : TrapId). Some x) (sym e)))
 
-  lights : (pair : PairOf) → IsPairOf pair lo hi → LeadsTo a (set (set (homes_for n) lo (left a)) hi (right a)) (Pulse (pair ∷ []) ∷ []) (set (set (homes_for n) lo (left a)) hi (right a))
-  lights pair is = record {
-    legal = (
-      pulse_rests a rules (set (set (homes_for n) lo (left a)) hi (right a)) lo hi two lo_at_left hi_at_right
-          (λ k t e ne ne'. omega (arith, others k t e ne ne', fit)) pair is,
-      tt,
-    );
-    leaves = refl;
+  pub phase_back : IsPhase a (after_shifts traps shifts) (map back shifts)
+  phase_back = record {
+    each = λ u listed.
+        let behind = contained_in_map back shifts u listed in
+        subst (CanShift a (after_shifts traps shifts)) behind.2 (can_return behind.0 behind.1);
+    atoms = pairs_map (λ (x y : Shift). x.q ≢ y.q) back shifts phase.atoms;
+    targets = pairs_map (λ (x y : Shift). x.to ≢ y.to) back shifts sources_apart;
   }
 
-  -- the smaller qubit is back
-  swapped : set (set (set (homes_for n) lo (left a)) hi (right a)) lo (home lo) ≡ set (homes_for n) hi (right a)
-  swapped =
-      set-set_other (set (homes_for n) lo (left a)) hi lo (right a) (home lo) two
-      ∙ ap (λ (l : List TrapId). set l hi (right a)) (set-set_same (homes_for n) lo (left a) (home lo) ∙ set-slice_get (homes_for n) lo (home lo) (home_of n lo lo_in))
+  back_at : (k : ℕ) → slice_get (after_shifts (after_shifts traps shifts) (map back shifts)) k ≡ slice_get traps k
+  back_at k = elim (named_or_not shifts k) [
+    | inl found ↦
+        let s = found.0 in
+        let can = phase.each s found.1 in
+        let rests = after_shifts-there traps shifts s s.from phase.atoms found.1 can.rests in
+        let there = after_shifts-there (after_shifts traps shifts) (map back shifts) (back s) s.to phase_back.atoms (contains_map back shifts s found.1) rests in
+        subst (λ n. slice_get (after_shifts (after_shifts traps shifts) (map back shifts)) n ≡ slice_get traps n) found.2 (there ∙ sym can.rests)
+    | inr none ↦
+        after_shifts-other (after_shifts traps shifts) (map back shifts) k
+        (λ u listed e.
+            let behind = contained_in_map back shifts u listed in
+            none behind.0 behind.1 (ap (λ (x : Shift). x.q) behind.2 ∙ e))
+        ∙ after_shifts-other traps shifts k none
+  ]
 
-  first_returns : LeadsTo a (set (set (homes_for n) lo (left a)) hi (right a)) (carry_steps a lo (left a) (home lo)) (set (homes_for n) hi (right a))
-  first_returns =
-      subst (λ (l : List TrapId). LeadsTo a (set (set (homes_for n) lo (left a)) hi (right a)) (carry_steps a lo (left a) (home lo)) l) swapped
-      (carry_rests a rules (set (set (homes_for n) lo (left a)) hi (right a)) lo (left a) (home lo) (omega (arith, site_in)) (storage_in lo lo_in) lo_at_left
-      (λ k e. elim (cases_eq k lo) as (λ _. ⊥) [
-        | inl same ↦ apart (left a) (home lo) (omega (arith, fit)) (sym (ap (λ m. slice_get (set (set (homes_for n) lo (left a)) hi (right a)) m) same ∙ lo_at_left) ∙ e)
-        | inr ne ↦ elim (cases_eq k hi) as (λ _. ⊥) [
-          | inl same ↦ apart (right a) (home lo) (omega (arith, fit)) (sym (ap (λ m. slice_get (set (set (homes_for n) lo (left a)) hi (right a)) m) same ∙ hi_at_right) ∙ e)
-          | inr ne' ↦ ne (sym (others k (home lo) e ne ne').1)
-        ]
-      ]))
-
-  second_returns : LeadsTo a (set (homes_for n) hi (right a)) (carry_steps a hi (right a) (home hi)) (homes_for n)
-  second_returns =
-      subst (λ (l : List TrapId). LeadsTo a (set (homes_for n) hi (right a)) (carry_steps a hi (right a) (home hi)) l)
-      (set-set_same (homes_for n) hi (right a) (home hi) ∙ set-slice_get (homes_for n) hi (home hi) (home_of n hi hi_in))
-      (carry_rests a rules (set (homes_for n) hi (right a)) hi (right a) (home hi) site_in (storage_in hi hi_in)
-      (slice_get-set_same (homes_for n) hi (home hi) (right a) (home_of n hi hi_in))
-      (λ k e. elim (cases_eq k hi) as (λ _. ⊥) [
-        | inl same ↦ apart (right a) (home hi) (omega (arith, fit)) (sym (ap (λ m. slice_get (set (homes_for n) hi (right a)) m) same ∙ slice_get-set_same (homes_for n) hi (home hi) (right a) (home_of n hi hi_in)) ∙ e)
-        | inr ne ↦ ne (sym (home_is n k (home hi) (sym (slice_get-set_other (homes_for n) hi k (right a) ne) ∙ e)).1)
-      ]))
-
-  pub arrive : LeadsTo a (homes_for n) (carry_steps a lo (home lo) (left a) ++ (carry_steps a hi (home hi) (right a) ++ [])) (set (set (homes_for n) lo (left a)) hi (right a))
-  arrive =
-      leads-append a (homes_for n) (set (homes_for n) lo (left a)) (set (set (homes_for n) lo (left a)) hi (right a)) (carry_steps a lo (home lo) (left a)) (carry_steps a hi (home hi) (right a) ++ []) first_arrives
-      (leads-append a (set (homes_for n) lo (left a)) (set (set (homes_for n) lo (left a)) hi (right a)) (set (set (homes_for n) lo (left a)) hi (right a)) (carry_steps a hi (home hi) (right a)) [] second_arrives (leads_nowhere a _))
-
-  pub return : LeadsTo a (set (set (homes_for n) lo (left a)) hi (right a)) (carry_steps a lo (left a) (home lo) ++ (carry_steps a hi (right a) (home hi) ++ [])) (homes_for n)
-  return =
-      leads-append a (set (set (homes_for n) lo (left a)) hi (right a)) (set (homes_for n) hi (right a)) (homes_for n) (carry_steps a lo (left a) (home lo)) (carry_steps a hi (right a) (home hi) ++ []) first_returns
-      (leads-append a (set (homes_for n) hi (right a)) (homes_for n) (homes_for n) (carry_steps a hi (right a) (home hi)) [] second_returns (leads_nowhere a _))
-
-  pub light : (pair : PairOf) → IsPairOf pair lo hi → LeadsTo a (set (set (homes_for n) lo (left a)) hi (right a)) (Pulse (pair ∷ []) ∷ []) (set (set (homes_for n) lo (left a)) hi (right a))
-  light pair is = lights pair is
+  -- it leads to where the atoms rested before
+  pub all_back : after_shifts (after_shifts traps shifts) (map back shifts) ≡ traps
+  all_back = same_places (after_shifts (after_shifts traps shifts) (map back shifts)) traps back_at

@@ -1,22 +1,21 @@
--- A pulse is legal where two atoms rest at site 0 and all others in storage.
-use Rattle.std.proofs.Common.{◌≡◌, ◌≢◌, ℕ, ◌+◌, ◌-◌, ◌*◌, ◌<◌, ◌≤◌, ◌⊎◌, inl, inr, List, [], ◌∷◌, Some, refl, sym, ap, ◌∙◌, subst, arith, slice_get, add_comm}
-use Rattle.std.specs.List.{Contains}
-use Rattle.std.proofs.lemmas.Bool.{cases_eq}
-use Rattle.std.proofs.lemmas.Option.{slice_get-map}
+-- A pulse is legal where each of its pairs rests at a site of its own, and all other atoms in storage.
+use Rattle.std.proofs.Common.{◌≡◌, ◌≢◌, ℕ, ◌+◌, ◌-◌, ◌*◌, ◌<◌, ◌≤◌, ◌⊎◌, inl, inr, List, [], ◌∷◌, Some, length, get_or, refl, sym, ap, ◌∙◌, subst, arith, slice_get, add_comm}
+use Rattle.std.specs.List.{AllPairs, Any, Contains}
+use Rattle.std.proofs.lemmas.Option.{slice_get-map, slice_get-get_or}
 use Rattle.std.specs.Option.{option_map}
-use Rattle.zac_arch.specs.Architecture.{Architecture, trap_count, storage_count, left_trap, right_trap}
+use Rattle.zac_arch.specs.Architecture.{Architecture, trap_count, storage_count, site_count, left_trap, right_trap, IsTrapOf}
 use Rattle.zac_arch.specs.Distances.{difference, squared_distance, IsWithin}
 use Rattle.zac_arch.specs.Rules.{KeepsRules}
 use Rattle.zac_arch.specs.declared.place.Point.{Point}
 use Rattle.zac_arch.specs.declared.place.TrapId.{TrapId}
-use Rattle.zac_arch.proofs.Geometry.{storage_dark, entangling_lit, site_within, site_count_least, trap_count_is}
+use Rattle.zac_arch.proofs.Geometry.{storage_dark, entangling_lit, site_within, one_site, trap_count_is}
 use Rattle.zair_form.specs.declared.step.PairOf.{PairOf}
 use Rattle.zair_form.specs.declared.step.Step.TheVariants.{Pulse}
 use Rattle.zair_machine.specs.declared.place.Place.TheVariants.{Trap}
 use Rattle.zair_machine.specs.State.{State, Beams, idle, opening, IsAt, RestsLit, AreInRange, beams_of}
 use Rattle.zair_machine.specs.Legal.{IsLegal, IsPairOf}
 use Rattle.zac_plan.specs.Plan.{point_at, left, right}
-use Rattle.zac_plan.proofs.Lists.{All-one, AllPairs-one, contained_in_none}
+use Rattle.zac_plan.proofs.Lists.{any_from_contained, contained_in_none, contains_at}
 use Rattle.zac_plan.proofs.Carry.{in_trap, idle_at}
 use Rattle.zac_plan.proofs.Rests.{stands_at}
 
@@ -54,75 +53,133 @@ rests_only_in a traps q t h = in_trap (slice_get traps q) t (sym (slice_get-map 
 pub no_beam : (a : Architecture) (traps : List TrapId) (aod : ℕ) → beams_of (opening a traps) aod ≡ idle
 no_beam a traps aod = idle_at a.figures.aods aod
 
-module _ (a : Architecture) (rules : KeepsRules a) (traps : List TrapId) (lo hi : ℕ) (two : lo ≢ hi)
-    (lo_left : slice_get traps lo ≡ Some (left a)) (hi_right : slice_get traps hi ≡ Some (right a))
-    (stored : (k : ℕ) (t : TrapId) → slice_get traps k ≡ Some t → k ≢ lo → k ≢ hi → t.0 < storage_count a) where
-  left_in : left_trap a 0 < trap_count a
-  left_in = omega (arith, trap_count_is a rules, site_count_least a rules)
+-- the atoms of a pair rest in the two traps of this site
+abbrev pub IsSeated : Architecture → List TrapId → ℕ → PairOf → Type 0
+IsSeated a traps site p =
+    ((slice_get traps p.a ≡ Some (left a site)) × (slice_get traps p.b ≡ Some (right a site)))
+    ⊎ ((slice_get traps p.a ≡ Some (right a site)) × (slice_get traps p.b ≡ Some (left a site)))
 
-  right_in : right_trap a 0 < trap_count a
-  right_in = omega (arith, trap_count_is a rules, site_count_least a rules)
+-- Each pair rests at a site of its own, that of its place in the list, and each other atom rests in storage.
+pub record AreSeated (a : Architecture) (traps : List TrapId) (pairs : List PairOf) : Type 0 where
+  pub few : length pairs ≤ site_count a
+  pub seated : (k : ℕ) (p : PairOf) → slice_get pairs k ≡ Some p → IsSeated a traps k p
+  pub others : (q : ℕ) (t : TrapId) → slice_get traps q ≡ Some t →
+      ((k : ℕ) × (p : PairOf) × (slice_get pairs k ≡ Some p) × ((p.a ≡ q) ⊎ (p.b ≡ q))) ⊎ (t.0 < storage_count a)
 
-  lo_lit : RestsLit a (opening a traps) lo (point_at a (left a))
-  lo_lit =
-      let stands = stands_at a (left a) left_in in
-      (left a, rests_in a traps lo (left a) lo_left, stands, entangling_lit a rules (left_trap a 0) (point_at a (left a)) (omega arith) stands)
+number_of : (t u : TrapId) → Some t ≡ Some u → t.0 ≡ u.0
+number_of t u e = let same : t ≡ u = cc in ap (λ (x : TrapId). x.0) same
 
-  hi_lit : RestsLit a (opening a traps) hi (point_at a (right a))
-  hi_lit =
-      let stands = stands_at a (right a) right_in in
-      (right a, rests_in a traps hi (right a) hi_right, stands, entangling_lit a rules (right_trap a 0) (point_at a (right a)) (omega arith) stands)
+-- the trap in which a qubit of a seated pair rests is one of its site
+seat_of : (a : Architecture) (traps : List TrapId) (k : ℕ) (p : PairOf) (q : ℕ) (t : TrapId) → IsSeated a traps k p → (p.a ≡ q) ⊎ (p.b ≡ q) →
+    slice_get traps q ≡ Some t → IsTrapOf a k t.0
+seat_of a traps k p q t (inl s) (inl e) there = inl (number_of t (left a k) (sym there ∙ ap (slice_get traps) (sym e) ∙ s.0))
+seat_of a traps k p q t (inl s) (inr e) there = inr (number_of t (right a k) (sym there ∙ ap (slice_get traps) (sym e) ∙ s.1))
+seat_of a traps k p q t (inr s) (inl e) there = inr (number_of t (right a k) (sym there ∙ ap (slice_get traps) (sym e) ∙ s.0))
+seat_of a traps k p q t (inr s) (inr e) there = inl (number_of t (left a k) (sym there ∙ ap (slice_get traps) (sym e) ∙ s.1))
 
-  both_in_range : AreInRange a (opening a traps) lo hi
-  both_in_range = record {
-    two = two;
-    q_at = point_at a (left a);
-    r_at = point_at a (right a);
-    q_rests = lo_lit;
-    r_rests = hi_lit;
-    near = site_within a rules 0 (point_at a (left a)) (point_at a (right a)) (site_count_least a rules) (stands_at a (left a) left_in) (stands_at a (right a) right_in);
+-- two qubits of one pair
+both_of : (p : PairOf) (q r : ℕ) → q ≢ r → (p.a ≡ q) ⊎ (p.b ≡ q) → (p.a ≡ r) ⊎ (p.b ≡ r) → IsPairOf p q r
+both_of p q r ne (inl e) (inl f) = absurd (ne (sym e ∙ f))
+both_of p q r ne (inl e) (inr f) = inl (e, f)
+both_of p q r ne (inr e) (inl f) = inr (f, e)
+both_of p q r ne (inr e) (inr f) = absurd (ne (sym e ∙ f))
+
+one_site_trap : (a : Architecture) (k l t : ℕ) → IsTrapOf a k t → IsTrapOf a l t → k ≡ l
+one_site_trap a k l t (inl e) (inl f) = omega arith
+one_site_trap a k l t (inl e) (inr f) = omega arith
+one_site_trap a k l t (inr e) (inl f) = omega arith
+one_site_trap a k l t (inr e) (inr f) = omega arith
+
+-- the pair of qubit p is the pair of q, or of r
+shares : (p p' : PairOf) → IsPairOf p' p.a p.b → (p'.a ≡ p.a) ⊎ (p'.b ≡ p.a)
+shares p p' (inl e) = inl e.0
+shares p p' (inr e) = inr e.1
+
+same_item : (xs : List PairOf) (k l : ℕ) (x y : PairOf) → k ≡ l → slice_get xs k ≡ Some x → slice_get xs l ≡ Some y → x ≡ y
+same_item xs k l x y e at_k at_l = let same : Some x ≡ Some y = sym at_k ∙ ap (slice_get xs) e ∙ at_l in cc
+
+module _ (a : Architecture) (rules : KeepsRules a) (traps : List TrapId) (pairs : List PairOf) (seats : AreSeated a traps pairs) where
+  -- where the left and the right trap of a site in use stand
+  left_in : (k : ℕ) → k < length pairs → left_trap a k < trap_count a
+  left_in k within = let few = seats.few in omega (arith, trap_count_is a rules)
+
+  right_in : (k : ℕ) → k < length pairs → right_trap a k < trap_count a
+  right_in k within = let few = seats.few in omega (arith, trap_count_is a rules)
+
+  left_lit : (k q : ℕ) → k < length pairs → slice_get traps q ≡ Some (left a k) → RestsLit a (opening a traps) q (point_at a (left a k))
+  left_lit k q within there =
+      let stands = stands_at a (left a k) (left_in k within) in
+      (left a k, rests_in a traps q (left a k) there, stands, entangling_lit a rules (left_trap a k) (point_at a (left a k)) (omega arith) stands)
+
+  right_lit : (k q : ℕ) → k < length pairs → slice_get traps q ≡ Some (right a k) → RestsLit a (opening a traps) q (point_at a (right a k))
+  right_lit k q within there =
+      let stands = stands_at a (right a k) (right_in k within) in
+      (right a k, rests_in a traps q (right a k) there, stands, entangling_lit a rules (right_trap a k) (point_at a (right a k)) (omega arith) stands)
+
+  -- two atoms in the two traps of a site are in range
+  near_at : (k q r : ℕ) → k < length pairs → slice_get traps q ≡ Some (left a k) → slice_get traps r ≡ Some (right a k) → AreInRange a (opening a traps) q r
+  near_at k q r within at_left at_right = record {
+    two = λ e.
+        let same : left_trap a k ≡ right_trap a k = number_of (left a k) (right a k) (sym at_left ∙ ap (slice_get traps) e ∙ at_right) in
+        absurd (omega arith);
+    q_at = point_at a (left a k);
+    r_at = point_at a (right a k);
+    q_rests = left_lit k q within at_left;
+    r_rests = right_lit k r within at_right;
+    near = let few = seats.few in
+        site_within a rules k (point_at a (left a k)) (point_at a (right a k)) (omega arith) (stands_at a (left a k) (left_in k within)) (stands_at a (right a k) (right_in k within));
   }
 
-  -- no other atom is lit
-  lit_is : (k : ℕ) (p : Point) → RestsLit a (opening a traps) k p → (k ≡ lo) ⊎ (k ≡ hi)
-  lit_is k p h =
-      elim (cases_eq k lo) as (λ _. (k ≡ lo) ⊎ (k ≡ hi)) [
-        | inl e ↦ inl e
-        | inr ne ↦ elim (cases_eq k hi) as (λ _. (k ≡ lo) ⊎ (k ≡ hi)) [
-          | inl e ↦ inr e
-          | inr ne' ↦ absurd (storage_dark a rules h.0.0 p (stored k h.0 (rests_only_in a traps k h.0 h.1) ne ne') h.2 h.3)
-        ]
+  seated_in_range : (k : ℕ) (p : PairOf) → k < length pairs → IsSeated a traps k p → AreInRange a (opening a traps) p.a p.b
+  seated_in_range k p within (inl s) = near_at k p.a p.b within s.0 s.1
+  seated_in_range k p within (inr s) = in_range_comm a (opening a traps) p.b p.a (near_at k p.b p.a within s.1 s.0)
+
+  -- the pair of an atom that is lit
+  lit_pair : (q : ℕ) (p : Point) → RestsLit a (opening a traps) q p → (k : ℕ) × (pair : PairOf) × (slice_get pairs k ≡ Some pair) × ((pair.a ≡ q) ⊎ (pair.b ≡ q))
+  lit_pair q p h =
+      let t = h.0 in
+      elim (seats.others q t (rests_only_in a traps q t h.1)) [
+        | inl found ↦ found
+        | inr stored ↦ absurd (storage_dark a rules t.0 p stored h.2 h.3)
       ]
 
-  pair_in_range : (pair : PairOf) → IsPairOf pair lo hi → AreInRange a (opening a traps) pair.a pair.b
-  pair_in_range pair (inl e) =
-      subst (λ n. AreInRange a (opening a traps) n pair.b) (sym e.0) (subst (λ n. AreInRange a (opening a traps) lo n) (sym e.1) both_in_range)
-  pair_in_range pair (inr e) =
-      subst (λ n. AreInRange a (opening a traps) n pair.b) (sym e.0) (subst (λ n. AreInRange a (opening a traps) hi n) (sym e.1) (in_range_comm a (opening a traps) lo hi both_in_range))
+  listed : (q r : ℕ) → AreInRange a (opening a traps) q r → Any (λ (p : PairOf). IsPairOf p q r) pairs
+  listed q r h =
+      let mine = lit_pair q h.q_at h.q_rests in
+      let other = lit_pair r h.r_at h.r_rests in
+      let mine_at = seat_of a traps mine.0 mine.1 q h.q_rests.0 (seats.seated mine.0 mine.1 mine.2) mine.3 (rests_only_in a traps q h.q_rests.0 h.q_rests.1) in
+      let other_at = seat_of a traps other.0 other.1 r h.r_rests.0 (seats.seated other.0 other.1 other.2) other.3 (rests_only_in a traps r h.r_rests.0 h.r_rests.1) in
+      let site : mine.0 ≡ other.0 = one_site a rules mine.0 other.0 h.q_rests.0.0 h.r_rests.0.0 h.q_at h.r_at mine_at other_at h.q_rests.2 h.r_rests.2 h.near in
+      let pair : other.1 ≡ mine.1 = same_item pairs other.0 mine.0 other.1 mine.1 (sym site) other.2 mine.2 in
+      any_from_contained (λ (p : PairOf). IsPairOf p q r) pairs mine.1 (contains_at pairs mine.0 mine.1 mine.2)
+      (both_of mine.1 q r h.two mine.3 (subst (λ (x : PairOf). (x.a ≡ r) ⊎ (x.b ≡ r)) pair other.3))
 
-  is_pair : (pair : PairOf) (q r : ℕ) → IsPairOf pair lo hi → q ≢ r → (q ≡ lo) ⊎ (q ≡ hi) → (r ≡ lo) ⊎ (r ≡ hi) → IsPairOf pair q r
-  is_pair pair q r (inl e) ne (inl f) (inl g) = absurd (ne (f ∙ sym g))
-  is_pair pair q r (inl e) ne (inl f) (inr g) = inl (e.0 ∙ sym f, e.1 ∙ sym g)
-  is_pair pair q r (inl e) ne (inr f) (inl g) = inr (e.0 ∙ sym g, e.1 ∙ sym f)
-  is_pair pair q r (inl e) ne (inr f) (inr g) = absurd (ne (f ∙ sym g))
-  is_pair pair q r (inr e) ne (inl f) (inl g) = absurd (ne (f ∙ sym g))
-  is_pair pair q r (inr e) ne (inl f) (inr g) = inr (e.0 ∙ sym g, e.1 ∙ sym f)
-  is_pair pair q r (inr e) ne (inr f) (inl g) = inl (e.0 ∙ sym f, e.1 ∙ sym g)
-  is_pair pair q r (inr e) ne (inr f) (inr g) = absurd (ne (f ∙ sym g))
+  rests_somewhere : (k : ℕ) (p : PairOf) → IsSeated a traps k p → (t : TrapId) × (slice_get traps p.a ≡ Some t)
+  rests_somewhere k p (inl s) = (left a k, s.0)
+  rests_somewhere k p (inr s) = (right a k, s.0)
 
-  is_one : (pair : PairOf) (q : ℕ) → IsPairOf pair lo hi → (q ≡ lo) ⊎ (q ≡ hi) → (pair.a ≡ q) ⊎ (pair.b ≡ q)
-  is_one pair q (inl e) (inl f) = inl (e.0 ∙ sym f)
-  is_one pair q (inl e) (inr f) = inr (e.1 ∙ sym f)
-  is_one pair q (inr e) (inl f) = inr (e.1 ∙ sym f)
-  is_one pair q (inr e) (inr f) = inl (e.0 ∙ sym f)
+  listed_once : AllPairs (λ (p p' : PairOf). ¬ IsPairOf p' p.a p.b) pairs
+  listed_once i j d before within same =
+      let p = get_or pairs i d in
+      let p' = get_or pairs j d in
+      let first = seats.seated i p (slice_get-get_or pairs i d (omega arith)) in
+      let second = seats.seated j p' (slice_get-get_or pairs j d within) in
+      let there = rests_somewhere i p first in
+      let one = seat_of a traps i p p.a there.0 first (inl refl) there.1 in
+      let two = seat_of a traps j p' p.a there.0 second (shares p p' same) there.1 in
+      absurd (omega (arith, one_site_trap a i j there.0.0 one two))
 
-  pub pulse_rests : (pair : PairOf) → IsPairOf pair lo hi → IsLegal a (opening a traps) (Pulse (pair ∷ []))
-  pulse_rests pair is = record {
+  pub pulse_rests : IsLegal a (opening a traps) (Pulse pairs)
+  pulse_rests = record {
     in_range = record {
-      only = All-one (λ (p : PairOf). AreInRange a (opening a traps) p.a p.b) pair (pair_in_range pair is);
-      all = λ q r h. (0, pair, omega arith, refl, is_pair pair q r is h.two (lit_is q h.q_at h.q_rests) (lit_is r h.r_at h.r_rests));
-      once = AllPairs-one (λ (p p' : PairOf). ¬ IsPairOf p' p.a p.b) pair;
+      only = λ k d within.
+          let p = get_or pairs k d in
+          seated_in_range k p within (seats.seated k p (slice_get-get_or pairs k d within));
+      all = listed;
+      once = listed_once;
     };
-    none_alone = λ q p h. (0, pair, omega arith, refl, is_one pair q is (lit_is q p h));
+    none_alone = λ q p h.
+        let found = lit_pair q p h in
+        any_from_contained (λ (pair : PairOf). (pair.a ≡ q) ⊎ (pair.b ≡ q)) pairs found.1 (contains_at pairs found.0 found.1 found.2) found.3;
     dark = λ aod row column in_row in_column. absurd (contained_in_none row (subst (λ (b : Beams). Contains b.rows row) (no_beam a traps aod) in_row));
   }

@@ -1,4 +1,4 @@
--- The carry of one atom from state to state, and the pulse of two atoms at site 0.
+-- The carry of one atom from one state at rest to the next.
 use Rattle.std.proofs.Common.{◌≡◌, ◌≢◌, ℕ, zero, suc, pred, ◌<◌, ◌≤◌, List, Some, set, replicate, refl, sym, ap, ◌∙◌, subst, arith, slice_get, map}
 use Rattle.std.proofs.lemmas.Option.{slice_get-get_or}
 use Rattle.zac_arch.specs.Architecture.{Architecture, trap_points, trap_count, StandsAt}
@@ -9,6 +9,7 @@ use Rattle.zair_form.specs.declared.step.Step.{Step}
 use Rattle.zair_machine.specs.declared.place.Place.TheVariants.{Trap}
 use Rattle.zair_machine.specs.State.{State, idle, opening}
 use Rattle.zair_machine.specs.Run.{IsLegalRun, after_all}
+use Rattle.zac_plan.specs.declared.shift.Shift.{Shift}
 use Rattle.zac_plan.specs.Plan.{point_at, carry_steps}
 use Rattle.zac_plan.proofs.Carry.{resting, run, result}
 
@@ -30,20 +31,26 @@ pub record LeadsTo (a : Architecture) (traps : List TrapId) (steps : List Step) 
   pub legal : IsLegalRun a (opening a traps) steps
   pub leaves : after_all (opening a traps) steps ≡ opening a traps'
 
-pub carry_rests : (a : Architecture) → KeepsRules a → (traps : List TrapId) (q : ℕ) (from to : TrapId) → from.0 < trap_count a → to.0 < trap_count a →
-    slice_get traps q ≡ Some from → ((k : ℕ) → slice_get traps k ≢ Some to) → LeadsTo a traps (carry_steps a q from to) (set traps q to)
-carry_rests a rules traps q from to from_in to_in there empty =
+-- the shift's atom rests in its trap, its target is empty, and both traps exist
+pub record CanShift (a : Architecture) (traps : List TrapId) (s : Shift) : Type 0 where
+  pub rests : slice_get traps s.q ≡ Some s.from
+  pub empty : (k : ℕ) → slice_get traps k ≢ Some s.to
+  pub from_in : s.from.0 < trap_count a
+  pub to_in : s.to.0 < trap_count a
+
+pub carry_rests : (a : Architecture) → KeepsRules a → (traps : List TrapId) (s : Shift) → CanShift a traps s → LeadsTo a traps (carry_steps a s) (set traps s.q s.to)
+carry_rests a rules traps s can =
     let ranges = figure_ranges a rules in
     let m : ℕ = pred a.figures.aods in
-    let p = stands_at a from from_in in
-    let r = stands_at a to to_in in
-    let p_on = on_the_field a rules from.0 (point_at a from) p in
-    let r_on = on_the_field a rules to.0 (point_at a to) r in
+    let p = stands_at a s.from can.from_in in
+    let r = stands_at a s.to can.to_in in
+    let p_on = on_the_field a rules s.from.0 (point_at a s.from) p in
+    let r_on = on_the_field a rules s.to.0 (point_at a s.to) r in
     let before = rests_with_others a traps rules in
-    let behind = rests_with_others a (set traps q to) rules in
-    let steps : List Step = carry_steps a q from to in
-    let legal : IsLegalRun a (resting m traps) steps = run a m traps q from to (point_at a from) (point_at a to) ranges.rows_least ranges.columns_least there p r (omega arith) (omega arith) (omega arith) (omega arith) empty in
-    let leaves : after_all (resting m traps) steps ≡ resting m (set traps q to) = result a m traps q from to (point_at a from) (point_at a to) ranges.rows_least ranges.columns_least there p r (omega arith) (omega arith) (omega arith) (omega arith) empty in
+    let behind = rests_with_others a (set traps s.q s.to) rules in
+    let steps : List Step = carry_steps a s in
+    let legal : IsLegalRun a (resting m traps) steps = run a m traps s.q s.from s.to (point_at a s.from) (point_at a s.to) ranges.rows_least ranges.columns_least can.rests p r (omega arith) (omega arith) (omega arith) (omega arith) can.empty in
+    let leaves : after_all (resting m traps) steps ≡ resting m (set traps s.q s.to) = result a m traps s.q s.from s.to (point_at a s.from) (point_at a s.to) ranges.rows_least ranges.columns_least can.rests p r (omega arith) (omega arith) (omega arith) (omega arith) can.empty in
     record {
       legal = subst (λ (s : State). IsLegalRun a s steps) (sym before) legal;
       leaves = ap (λ (s : State). after_all s steps) before ∙ leaves ∙ sym behind;

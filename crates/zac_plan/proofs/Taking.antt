@@ -1,81 +1,99 @@
--- A gate that waits adds nothing to the timeline.
-use Rattle.std.proofs.Common.{◌≡◌, ℕ, ◌+◌, ◌<◌, inl, inr, List, [], ◌∷◌, ◌++◌, Option, Some, zero, suc, length, drop, slice_get, append_assoc, refl, sym, ap, ◌∙◌, subst, arith, length-append}
-use Rattle.std.proofs.lemmas.Bool.{cases_eq}
-use Rattle.zac_arch.specs.Architecture.{Architecture}
+-- One op more of a slot, of a pulse, or of the reads.
+use Rattle.std.proofs.Common.{◌≡◌, ℕ, zero, suc, ◌+◌, ◌<◌, List, [], ◌∷◌, ◌++◌, Option, Some, None, length, get_or, take, map, refl, sym, ap, ◌∙◌, append-nil, arith, slice_get}
+use Rattle.std.specs.List.{AllByRecursion, cons_option, filter_map, range_with_len}
+use Rattle.std.specs.Option.{option_and_then}
+use Rattle.std.proofs.lemmas.List.{take_more}
+use Rattle.std.proofs.lemmas.List.Elements.{filter_map-append}
 use Rattle.zac_gates.specs.declared.angle.Angles.{Angles}
 use Rattle.zac_gates.specs.declared.circuit.Op.{Op}
-use Rattle.zac_gates.specs.declared.circuit.Op.TheVariants.{One}
-use Rattle.zair_form.specs.declared.program.Act.{Act}
+use Rattle.zac_gates.specs.declared.circuit.Op.TheVariants.{One, Two, Fence, Read}
 use Rattle.zair_form.specs.declared.step.OneGate.{OneGate}
+use Rattle.zair_form.specs.declared.step.PairOf.{PairOf}
 use Rattle.zair_form.specs.declared.step.ReadOf.{ReadOf}
-use Rattle.zac_plan.specs.declared.planning.Planning.{Planning}
-use Rattle.zac_plan.specs.declared.timeline.Timeline.{Timeline}
-use Rattle.zac_plan.specs.Growth.{AreTraps, GoesOn}
-use Rattle.zair_form.specs.Ranges.{AnglesFit}
-use Rattle.zac_plan.specs.Pending.{PlansOp, PlansFirst, HasAngles, left_to_do}
-use Rattle.zac_plan.specs.Plan.{acts_from}
-use Rattle.zac_plan.proofs.Growing.{goes_nowhere, goes_on_append}
+use Rattle.zac_plan.specs.Plan.{gate_of, pair_of, read_of, gates_at, pairs_at}
 
-pub takes_one : (a : Architecture) (old new : Planning) (n q : ℕ) (angles : Angles) (op : Op) → op ≡ One q angles → AnglesFit angles → AreTraps a old.at_site →
-    new.timeline ≡ old.timeline → new.at_site ≡ old.at_site → new.reads.items ≡ old.reads.items →
-    new.ones.items ≡ old.ones.items ++ (record { op = n; q = q; angles = angles }) ∷ [] → PlansOp a old new n op
-takes_one a old new n q angles op is texts placed timeline at_site reads ones =
-    let longer : length new.ones.items ≡ length old.ones.items + 1 = ap length ones ∙ length-append old.ones.items ((record { op = n; q = q; angles = angles }) ∷ []) in
-    let now : new.timeline.now ≡ old.timeline.now = ap (λ (t : Timeline). t.now) timeline in
-    record {
-      acts = [];
-      goes_on = subst (λ (t : Timeline). GoesOn a.figures old.timeline t []) (sym timeline) (goes_nowhere a.figures old.timeline);
-      left = λ ops.
-          ap (λ (o : Op). acts_from a n old.at_site old.ones.items old.reads.items (o ∷ ops)) is
-          ∙ ap (λ (l : List OneGate). acts_from a (n + 1) old.at_site l old.reads.items ops) (sym ones)
-          ∙ ap (λ (l : List ReadOf). acts_from a (n + 1) old.at_site new.ones.items l ops) (sym reads)
-          ∙ ap (λ (o : Option (ℕ × ℕ)). acts_from a (n + 1) o new.ones.items new.reads.items ops) (sym at_site);
-      placed = subst (λ (o : Option (ℕ × ℕ)). AreTraps a o) (sym at_site) placed;
-      most = omega arith;
-      angles = subst HasAngles (sym is) texts;
-    }
+-- one item more that a map may leave out
+taken_more : {Y : Type 0} (h : ℕ → Option Y) (numbers : List ℕ) (k : ℕ) → k < length numbers →
+    filter_map h (take (k + 1) numbers) ≡ filter_map h (take k numbers) ++ cons_option (h (get_or numbers k 0)) []
+taken_more h numbers k within = ap (filter_map h) (take_more numbers k 0 within) ∙ filter_map-append h (take k numbers) (get_or numbers k 0 ∷ [])
 
-one_op : (x y : Op) → Some x ≡ Some y → x ≡ y
-one_op x y e = cc
+-- the items that a map of ops keeps, with those of one op more
+module _ (Y : Type 0) (at : ℕ → Op → Option Y) (ops : List Op) where
+  kept : List ℕ → List Y
+  kept numbers = filter_map (λ n. option_and_then (at n) (slice_get ops n)) numbers
 
-drop_at : {X : Type 0} (xs : List X) (n : ℕ) (x : X) → slice_get xs n ≡ Some x → drop n xs ≡ x ∷ drop (n + 1) xs
-drop_at [] n x h = cc
-drop_at (y ∷ ys) zero x h = let same : y ≡ x = cc in ap (λ z. z ∷ ys) same
-drop_at {X} (y ∷ ys) (suc n) x h =
-    let next : suc n + 1 ≡ suc (n + 1) = omega arith in
-    drop_at ys n x h ∙ ap (λ m. x ∷ drop m (y ∷ ys)) (sym next)
+  pub kept_more : (numbers : List ℕ) (k : ℕ) (op : Op) (before : List Y) → k < length numbers → slice_get ops (get_or numbers k 0) ≡ Some op →
+      before ≡ filter_map (λ n. option_and_then (at n) (slice_get ops n)) (take k numbers) →
+      before ++ cons_option (at (get_or numbers k 0) op) [] ≡ filter_map (λ n. option_and_then (at n) (slice_get ops n)) (take (k + 1) numbers)
+  kept_more numbers k op before within there e =
+      ap (λ (l : List Y). l ++ cons_option (at (get_or numbers k 0) op) []) e
+      ∙ ap (λ (o : Option Op). filter_map (λ n. option_and_then (at n) (slice_get ops n)) (take k numbers) ++ cons_option (option_and_then (at (get_or numbers k 0)) o) []) (sym there)
+      ∙ sym (taken_more (λ n. option_and_then (at n) (slice_get ops n)) numbers k within)
 
--- none have been taken
-pub takes_none : (a : Architecture) (p : Planning) (ops : List Op) → AreTraps a p.at_site → PlansFirst a p p ops 0
-takes_none a p ops placed = record {
-  acts = [];
-  goes_on = goes_nowhere a.figures p.timeline;
-  left = refl;
-  placed = placed;
-  most = omega arith;
-  angles = λ k op below there. absurd (omega arith);
-}
+-- an op of another kind gives none
+pub no_gate : (n : ℕ) (op : Op) → ((q : ℕ) (angles : Angles) → op ≡ One q angles → ⊥) → gate_of n op ≡ None
+no_gate n (One q angles) h = absurd (h q angles refl)
+no_gate n (Two a b) h = refl
+no_gate n Fence h = refl
+no_gate n (Read q bit) h = refl
 
--- one of the first n + 1 is one of the first n, or the one of number n
-angles_more : (ops : List Op) (n k : ℕ) (here op : Op) → slice_get ops n ≡ Some here → HasAngles here →
-    ((j : ℕ) (o : Op) → j < n → slice_get ops j ≡ Some o → HasAngles o) → k < n + 1 → slice_get ops k ≡ Some op → HasAngles op
-angles_more ops n k here op at texts before below there =
-    elim (cases_eq k n) as (λ _. HasAngles op) [
-      | inl same ↦ subst HasAngles (one_op here op (sym at ∙ ap (slice_get ops) (sym same) ∙ there)) texts
-      | inr ne ↦ before k op (omega arith) there
-    ]
+pub no_pair : (n : ℕ) (op : Op) → ((a b : ℕ) → op ≡ Two a b → ⊥) → pair_of n op ≡ None
+no_pair n (One q angles) h = refl
+no_pair n (Two a b) h = absurd (h a b refl)
+no_pair n Fence h = refl
+no_pair n (Read q bit) h = refl
 
--- one more has been taken
-pub takes_more : (a : Architecture) (p q r : Planning) (ops : List Op) (n : ℕ) (op : Op) → slice_get ops n ≡ Some op → PlansFirst a p q ops n → PlansOp a q r n op → PlansFirst a p r ops (n + 1)
-takes_more a p q r ops n op here h k =
-    let next : drop n ops ≡ op ∷ drop (n + 1) ops = drop_at ops n op here in
-    record {
-      acts = h.acts ++ k.acts;
-      goes_on = goes_on_append a.figures p.timeline q.timeline r.timeline h.acts k.acts h.goes_on k.goes_on;
-      left =
-          h.left ∙ ap (λ (l : List Op). h.acts ++ left_to_do a q n l) next ∙ ap (λ (l : List Act). h.acts ++ l) (k.left (drop (n + 1) ops))
-          ∙ sym (append_assoc h.acts k.acts (left_to_do a r (n + 1) (drop (n + 1) ops)));
-      placed = k.placed;
-      most = let before = h.most in let now = k.most in omega arith;
-      angles = λ j o below there. angles_more ops n j op o here k.angles h.angles below there;
-    }
+pub no_read : (n : ℕ) (op : Op) → ((q bit : ℕ) → op ≡ Read q bit → ⊥) → read_of n op ≡ None
+no_read n (One q angles) h = refl
+no_read n (Two a b) h = refl
+no_read n Fence h = refl
+no_read n (Read q bit) h = absurd (h q bit refl)
+
+-- the list after an op that gives one item, and after one that gives none
+module _ (Y : Type 0) (at : ℕ → Op → Option Y) (ops : List Op) (numbers : List ℕ) (k : ℕ) (op : Op) (before after : List Y)
+    (within : k < length numbers) (there : slice_get ops (get_or numbers k 0) ≡ Some op)
+    (e : before ≡ filter_map (λ n. option_and_then (at n) (slice_get ops n)) (take k numbers)) where
+  pub took_one : (y : Y) → at (get_or numbers k 0) op ≡ Some y → after ≡ before ++ y ∷ [] → after ≡ filter_map (λ n. option_and_then (at n) (slice_get ops n)) (take (k + 1) numbers)
+  took_one y gives pushed =
+      pushed
+      ∙ ap (λ (o : Option Y). before ++ cons_option o []) (sym gives)
+      ∙ kept_more Y at ops numbers k op before within there e
+
+  pub took_none : at (get_or numbers k 0) op ≡ None → after ≡ before → after ≡ filter_map (λ n. option_and_then (at n) (slice_get ops n)) (take (k + 1) numbers)
+  took_none gives same =
+      same
+      ∙ sym (append-nil before)
+      ∙ ap (λ (o : Option Y). before ++ cons_option o []) (sym gives)
+      ∙ kept_more Y at ops numbers k op before within there e
+
+range_more : (from n to : ℕ) → from + n ≡ to → range_with_len from (n + 1) ≡ range_with_len from n ++ to ∷ []
+range_more from zero to e = let here : from ≡ to = omega arith in ap (λ (m : ℕ). m ∷ []) here
+range_more from (suc n) to e =
+    let count : suc n + 1 ≡ suc (n + 1) = omega arith in
+    let there : (from + 1) + n ≡ to = omega arith in
+    ap (range_with_len from) count ∙ ap (λ (l : List ℕ). from ∷ l) (range_more (from + 1) n to there)
+
+-- the same at the numbers from 0 on
+module _ (Y : Type 0) (at : ℕ → Op → Option Y) (ops : List Op) (n : ℕ) (op : Op) (before after : List Y)
+    (there : slice_get ops n ≡ Some op) (e : before ≡ filter_map (λ m. option_and_then (at m) (slice_get ops m)) (range_with_len 0 n)) where
+  next : filter_map (λ m. option_and_then (at m) (slice_get ops m)) (range_with_len 0 (n + 1)) ≡
+      filter_map (λ m. option_and_then (at m) (slice_get ops m)) (range_with_len 0 n) ++ cons_option (at n op) []
+  next =
+      ap (filter_map (λ m. option_and_then (at m) (slice_get ops m))) (range_more 0 n n (omega arith))
+      ∙ filter_map-append (λ m. option_and_then (at m) (slice_get ops m)) (range_with_len 0 n) (n ∷ [])
+      ∙ ap (λ (o : Option Op). filter_map (λ m. option_and_then (at m) (slice_get ops m)) (range_with_len 0 n) ++ cons_option (option_and_then (at n) o) []) there
+
+  pub read_one : (y : Y) → at n op ≡ Some y → after ≡ before ++ y ∷ [] → after ≡ filter_map (λ m. option_and_then (at m) (slice_get ops m)) (range_with_len 0 (n + 1))
+  read_one y gives pushed =
+      pushed
+      ∙ ap (λ (o : Option Y). before ++ cons_option o []) (sym gives)
+      ∙ ap (λ (l : List Y). l ++ cons_option (at n op) []) e
+      ∙ sym next
+
+  pub read_none : at n op ≡ None → after ≡ before → after ≡ filter_map (λ m. option_and_then (at m) (slice_get ops m)) (range_with_len 0 (n + 1))
+  read_none gives same =
+      same
+      ∙ sym (append-nil before)
+      ∙ ap (λ (o : Option Y). before ++ cons_option o []) (sym gives)
+      ∙ ap (λ (l : List Y). l ++ cons_option (at n op) []) e
+      ∙ sym next

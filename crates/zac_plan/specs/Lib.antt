@@ -1,4 +1,3 @@
 pub mod Plan
 pub mod Flight
 pub mod Growth
-pub mod Pending

@@ -1,23 +1,21 @@
-//! The planner's call.
+//! The plan of a circuit.
 
-ghost use Rattle.std.specs.Prelude.{◌≡◌, ◌<◌, ◌≤◌, ◌⊎◌, ◌↔◌, None, [], ◌∷◌, All, map, Err, IfOk, IfErr, OnOk, length};
-ghost use Rattle.zac_arch.specs.Architecture.{storage_count};
-ghost use Rattle.std.specs.List.{AllByRecursion};
+ghost use Rattle.std.specs.Prelude.{◌≡◌, ◌<◌, ◌≤◌, ◌↔◌, ◌⊎◌, IfOk, OnOk, IfErr, map, length, [], ◌∷◌, ◌++◌};
+ghost use Rattle.zac_arch.specs.Architecture.{storage_count, site_count};
 ghost use Rattle.zair_form.specs.Ranges.{ProgramFits};
 ghost use Rattle.zair_machine.specs.Chain.{IsChain, end_of};
-ghost use Rattle.zac_plan.specs.Pending.{HasAngles};
 ghost use Rattle.zair_machine.specs.Performs.{Performs};
-ghost use Rattle.zac_plan.specs.Plan.{plan, homes_for, acts_from};
-ghost use Rattle.zac_plan.specs.Growth.{IsSite, HasHomes};
-ghost use Rattle.zair_form.specs.declared.program.Act.TheVariants.{Init};
+ghost use Rattle.zac_plan.specs.Growth.{ActsFit, IsStagingOf};
+ghost use Rattle.zac_plan.specs.Plan.{plan, homes_for, IsPlanned};
 
-use crate::planning::Planning;
-use crate::timeline::{Site, Timeline};
+use crate::slots::{gates_at, reads_in};
+use crate::timeline::Timeline;
 use std::alloc::Global;
 use thiserror::Error;
-use zac_arch::{Card, SiteId, TrapId};
-use zac_gates::laws::each_list_is_realised;
-use zac_gates::{Circuit, List, Memory, Op};
+use zac_arch::{Card, TrapId};
+use zac_gates::{Circuit, List, Memory};
+use zac_stage::laws::{numbers_follow, pulses_are_filled};
+use zac_stage::{Stages, stage};
 use zair_form::{Instr, Program};
 use zair_machine::{chains_end_last, safe_chains_perform};
 
@@ -57,46 +55,45 @@ fn homes(alloc: Global, qubits: u32) -> Result<List<TrapId>, Memory>
 fn planned(
     alloc: Global,
     card: &Card,
-    site: Site,
-    qubits: u32,
-    ops: &[Op],
+    circuit: &Circuit,
+    stages: &Stages<'_>,
 ) -> Result<Vec<Instr>, Memory>
-    requires site { IsSite card.now site }
-    requires homes { All (HasHomes card.now) ops.now }
-    requires few { length ops.now ≤ 786432 }
+    requires stages { IsStagingOf card.now circuit.now stages.now }
+    requires fits { circuit.now.qubits ≤ storage_count card.now }
+    requires few { length circuit.now.ops ≤ 786432 }
     ensures does { IfOk result (λ instrs. map (λ i. i.act) instrs.items
-        ≡ Init (homes_for qubits) ∷ acts_from card.now 0 None [] [] ops.now) }
+        ≡ plan card.now circuit.now stages.now.gates stages.now.pairs) }
     ensures chain { IfOk result (λ instrs. IsChain card.now.figures 0 instrs.items) }
     ensures ends { IfOk result (λ instrs. end_of 0 instrs.items ≤ 4000000000000000000) }
-    ensures angles { OnOk result (AllByRecursion HasAngles ops.now) }
+    ensures in_range { IfOk result (λ instrs. ActsFit instrs.items) }
 {
-    let homes = homes(alloc, qubits)?;
-    let mut planning = Planning {
-        timeline: Timeline::starting(alloc, homes)?,
-        at_site: None,
-        ones: Vec::new(alloc),
-        reads: Vec::new(alloc),
-    };
-    planning.take_all(alloc, card, site, ops)?;
-    let Planning {
-        mut timeline,
-        at_site: _,
-        ones,
-        reads,
-    } = planning;
+    // Its contract says that the card keeps all rules.
+    let _figures = card.figures();
+    let ops = circuit.ops();
+    let homes = homes(alloc, circuit.qubits())?;
+    let mut timeline = Timeline::starting(alloc, homes)?;
+    let mut at_sites = Vec::new(alloc);
+    let pulses = stages.pulses();
+    for t in 0..pulses {
+        let slot = stages.gates(t);
+        let pulse = stages.pairs(t);
+        at_sites = timeline.add_round(alloc, card, ops, slot, pulse, at_sites.as_slice())?;
+    }
+    let ones = gates_at(alloc, ops, stages.gates(pulses))?;
     timeline.add_gates(card, ones)?;
+    let reads = reads_in(alloc, ops)?;
     timeline.add_readout(card, reads)?;
     Ok(timeline.instrs)
 }
 
 /// The program of these instructions, which are the plan of the circuit.
-fn program_of(card: &Card, circuit: &Circuit, instrs: Vec<Instr>) -> Program
+fn program_of(card: &Card, circuit: &Circuit, stages: &Stages<'_>, instrs: Vec<Instr>) -> Program
+    requires stages { IsStagingOf card.now circuit.now stages.now }
     requires fits { circuit.now.qubits ≤ storage_count card.now }
-    requires few { length circuit.now.ops ≤ 786432 }
-    requires angles { AllByRecursion HasAngles circuit.now.ops }
-    requires does { map (λ i. i.act) instrs.items ≡ plan card.now circuit.now }
+    requires does { map (λ i. i.act) instrs.items ≡ plan card.now circuit.now stages.now.gates stages.now.pairs }
     requires chain { IsChain card.now.figures 0 instrs.items }
     requires ends { end_of 0 instrs.items ≤ 4000000000000000000 }
+    requires in_range { ActsFit instrs.items }
     ensures value { result ≡ instrs.items }
     ensures performs { Performs card.now circuit.now instrs.items }
     ensures ranges { ProgramFits instrs.items }
@@ -104,8 +101,6 @@ fn program_of(card: &Card, circuit: &Circuit, instrs: Vec<Instr>) -> Program
     // Their contracts say that the card keeps all rules, and that each op of the circuit is valid.
     let _figures = card.figures();
     let _ops = circuit.ops();
-    let _bits = circuit.bits();
-    each_list_is_realised();
     chains_end_last();
     safe_chains_perform();
     match Program::new(List::of(instrs)) {
@@ -117,23 +112,25 @@ fn program_of(card: &Card, circuit: &Circuit, instrs: Vec<Instr>) -> Program
 /// The program of a circuit on a card, for a circuit of at most 786,432 ops. Zones, pulses and jobs follow ZAC
 /// (Lin, Tan and Cong, HPCA 2025).
 ///
-/// Qubit q rests in trap q. Each pair has a pulse of its own at site 0: the two atoms of the pair before go home,
-/// the smaller number first, then the two atoms of this pair come, the smaller number first and to the left, one
-/// job of AOD 0 each. The one-qubit gates between two pulses are one instruction, before the atoms are carried.
-/// All reads are one instruction, which comes last. Where there are no such gates or reads, it is left out. A
-/// fence gives no instruction. The first instruction begins at moment 0, and each other one where the one before
-/// it ends.
+/// Qubit q rests in trap q. The pairs of the circuit go into pulses of at most as many pairs as the card has sites,
+/// and its one-qubit gates into the slots between them, each as early as it can (`zac_stage`). Before a pulse come the
+/// gates of its slot, as one instruction; then the atoms of the pulse before it go home, and its own atoms come to the
+/// sites, by rising qubit, one job of AOD 0 each. Pair k of a pulse is at site k; of its two qubits the one whose home
+/// has the smaller x goes to the left trap, on equal x the one of smaller number. Behind the last pulse come the gates
+/// of the last slot, and then all reads as one instruction; no atom is moved there. Where there are no such gates or
+/// reads, the instruction is left out. The first instruction begins at moment 0, and each other one where the one
+/// before it ends.
 ///
 /// In the order of the list, and in every order that these times allow, each step is legal, each pulse brings
 /// within range exactly the pairs that it lists, and each op but the fences is performed once, after all that it
 /// must follow. All numbers and angles are in the ranges of the text form. The time that this call takes is in
-/// proportion to the ops.
+/// proportion to the ops, but for the order of the qubits of each pulse, which are sorted.
 ///
 /// `TooManyQubits` comes exactly where the circuit has more qubits than the card has storage traps. `Memory` is
 /// the only other fault.
 pub fn compile(alloc: Global, card: &Card, circuit: &Circuit) -> Result<Program, PlanFault>
     requires { length circuit.now.ops ≤ 786432 }
-    ensures does { IfOk result (λ program. map (λ i. i.act) program ≡ plan card.now circuit.now) }
+    ensures does { IfOk result (λ program. IsPlanned card.now circuit.now program) }
     ensures chain { IfOk result (λ program. IsChain card.now.figures 0 program) }
     ensures performs { IfOk result (λ program. Performs card.now circuit.now program) }
     ensures ranges { IfOk result (λ program. ProgramFits program) }
@@ -145,12 +142,13 @@ pub fn compile(alloc: Global, card: &Card, circuit: &Circuit) -> Result<Program,
     // Its contract says that the card keeps all rules.
     let _figures = card.figures();
     let qubits = circuit.qubits();
-    let ops = circuit.ops();
     let traps = card.storage_traps();
     if qubits > traps {
         return Err(PlanFault::TooManyQubits { qubits, traps });
     }
-    let (left, right) = card.site_traps(SiteId(0));
-    let instrs = planned(alloc, card, Site { left, right }, qubits, ops)?;
-    Ok(program_of(card, circuit, instrs))
+    let stages = stage(alloc, circuit, card.sites())?;
+    numbers_follow();
+    pulses_are_filled();
+    let instrs = planned(alloc, card, circuit, &stages)?;
+    Ok(program_of(card, circuit, &stages, instrs))
 }

@@ -1,22 +1,18 @@
 //! Instructions that follow one another without a pause.
 
-ghost use Rattle.std.specs.Prelude.{◌≡◌, ℕ, ◌+◌, ◌*◌, ◌^◌, ◌<◌, ◌≤◌, OnOk, IfOk, [], ◌∷◌, ◌++◌, vec_len};
+ghost use Rattle.std.specs.Prelude.{◌≡◌, ℕ, ◌+◌, ◌*◌, ◌^◌, ◌<◌, ◌≤◌, All, OnOk, IfOk, [], ◌∷◌, ◌++◌, length, vec_len};
+ghost use Rattle.std.specs.List.{AllByRecursion};
 ghost use Rattle.zac_arch.specs.Architecture.{trap_count};
-ghost use Rattle.zac_plan.specs.Growth.{GoesOn};
-ghost use Rattle.zac_plan.specs.Plan.{carry, gates_of, readout_of};
+ghost use Rattle.zair_form.specs.Ranges.{GateFits, PairFits, ReadFits};
+ghost use Rattle.zac_plan.specs.Growth.{GoesOn, HasTraps};
+ghost use Rattle.zac_plan.specs.Plan.{carries, carry, gates_act, reads_act};
 
 use crate::job::{flight, flight_time};
+use crate::shift::Shift;
 use std::alloc::Global;
 use zac_arch::{Card, TrapId};
 use zac_gates::{List, Memory};
 use zair_form::{Act, Instr, OneGate, PairOf, ReadOf};
-
-/// The two traps of a site.
-#[derive(Clone, Copy, Debug)]
-pub struct Site {
-    pub left: TrapId,
-    pub right: TrapId,
-}
 
 /// The instructions so far, and when the last of them ends.
 #[derive(Debug, Drop)]
@@ -56,8 +52,9 @@ impl Timeline {
 
     /// Adds gates in one instruction, or nothing where there are none.
     pub fn add_gates(&mut self, card: &Card, ones: Vec<OneGate>) -> Result<(), Memory>
-        requires { self.old.now + 1000000000 * vec_len ones < 2 ^ 64 }
-        ensures ok { OnOk result (GoesOn card.now.figures self.old self.new (gates_of ones.items)) }
+        requires fits { AllByRecursion GateFits ones.items }
+        requires room { self.old.now + 1000000000 * vec_len ones < 2 ^ 64 }
+        ensures ok { OnOk result (GoesOn card.now.figures self.old self.new (gates_act ones.items)) }
         ensures most { OnOk result (self.new.now ≤ self.old.now + 1000000000 * vec_len ones) }
     {
         if ones.is_empty() {
@@ -71,38 +68,42 @@ impl Timeline {
         Ok(())
     }
 
-    /// Adds the job that carries one atom from one trap to another.
-    pub fn add_carry(
-        &mut self,
-        alloc: Global,
-        card: &Card,
-        q: u32,
-        from: TrapId,
-        to: TrapId,
-    ) -> Result<(), Memory>
-        requires from_in { from.0 < trap_count card.now }
-        requires to_in { to.0 < trap_count card.now }
+    /// Adds the job that carries the atom of a shift.
+    fn add_carry(&mut self, alloc: Global, card: &Card, shift: Shift) -> Result<(), Memory>
+        requires traps { HasTraps card.now shift }
         requires room { self.old.now + 3000000000 < 2 ^ 64 }
-        ensures ok { OnOk result (GoesOn card.now.figures self.old self.new (carry card.now q from to ∷ [])) }
+        ensures ok { OnOk result (GoesOn card.now.figures self.old self.new (carry card.now shift ∷ [])) }
         ensures most { OnOk result (self.new.now ≤ self.old.now + 3000000000) }
     {
         let figures = card.figures();
-        let source = card.point(from);
-        let target = card.point(to);
-        let steps = flight(alloc, q, source, target, to)?;
+        let source = card.point(shift.from);
+        let target = card.point(shift.to);
+        let steps = flight(alloc, shift.q, source, target, shift.to)?;
         let duration = flight_time(card, figures, source, target);
         self.push(duration, Act::Job { aod: 0, steps })?;
         Ok(())
     }
 
-    /// Adds a pulse for one pair.
-    pub fn add_pulse(&mut self, alloc: Global, card: &Card, pair: PairOf) -> Result<(), Memory>
-        requires { self.old.now + 1000000000 < 2 ^ 64 }
-        ensures ok { OnOk result (GoesOn card.now.figures self.old self.new (Act.Rydberg (pair ∷ []) ∷ [])) }
+    /// Adds the jobs that carry the atoms of these shifts, one after another.
+    pub fn add_carries(&mut self, alloc: Global, card: &Card, shifts: &[Shift]) -> Result<(), Memory>
+        requires traps { All (HasTraps card.now) shifts.now }
+        requires room { self.old.now + 3000000000 * length shifts.now < 2 ^ 64 }
+        ensures ok { OnOk result (GoesOn card.now.figures self.old self.new (carries card.now shifts.now)) }
+        ensures most { OnOk result (self.new.now ≤ self.old.now + 3000000000 * length shifts.now) }
+    {
+        for shift in shifts {
+            self.add_carry(alloc, card, *shift)?;
+        }
+        Ok(())
+    }
+
+    /// Adds a pulse for these pairs.
+    pub fn add_pulse(&mut self, card: &Card, pairs: Vec<PairOf>) -> Result<(), Memory>
+        requires fits { AllByRecursion PairFits pairs.items }
+        requires room { self.old.now + 1000000000 < 2 ^ 64 }
+        ensures ok { OnOk result (GoesOn card.now.figures self.old self.new (Act.Rydberg pairs.items ∷ [])) }
         ensures most { OnOk result (self.new.now ≤ self.old.now + 1000000000) }
     {
-        let mut pairs = Vec::new(alloc);
-        pairs.push(pair)?;
         let act = Act::Rydberg {
             pairs: List::of(pairs),
         };
@@ -112,8 +113,9 @@ impl Timeline {
 
     /// Adds reads in one instruction, or nothing where there are none.
     pub fn add_readout(&mut self, card: &Card, reads: Vec<ReadOf>) -> Result<(), Memory>
-        requires { self.old.now + 1000000000 < 2 ^ 64 }
-        ensures ok { OnOk result (GoesOn card.now.figures self.old self.new (readout_of reads.items)) }
+        requires fits { AllByRecursion ReadFits reads.items }
+        requires room { self.old.now + 1000000000 < 2 ^ 64 }
+        ensures ok { OnOk result (GoesOn card.now.figures self.old self.new (reads_act reads.items)) }
         ensures most { OnOk result (self.new.now ≤ self.old.now + 1000000000) }
     {
         if reads.is_empty() {

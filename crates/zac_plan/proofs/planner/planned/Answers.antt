@@ -1,27 +1,117 @@
-use Rattle.std.proofs.Common.{◌≡◌, arith, None, List, [], ◌∷◌, refl, ap, ◌∙◌}
+use Rattle.std.proofs.Common.{◌≡◌, ◌≢◌, ◌+◌, ◌++◌, ◌<◌, [], ◌∷◌, List, arith, length, map, refl, ap, ◌∙◌, slice_get, subst, sym}
+use Rattle.std.specs.List.{All, AllPairs}
+use Rattle.std.specs.Vec.{vec_len}
 use Rattle.zac_arch.specs.declared.place.TrapId.{TrapId}
-use Rattle.zair_form.specs.declared.program.Act.TheVariants.{Init}
-use Rattle.zac_plan.specs.declared.planning.Planning.{Planning}
-use Rattle.zac_plan.specs.Plan.{homes_for}
-use Rattle.zac_plan.proofs.Planned.{IsWholePlan, whole_plan}
+use Rattle.zac_gates.specs.declared.circuit.Op.{Op}
+use Rattle.zair_form.specs.declared.program.Act.{Act}
+use Rattle.zair_form.specs.declared.program.Act.TheVariants.{Init, Rydberg}
+use Rattle.zair_form.specs.declared.program.Instr.{Instr}
+use Rattle.zac_plan.specs.declared.shift.Shift.{Shift}
+use Rattle.zac_plan.specs.Growth.{GoesOn, HasHomes}
+use Rattle.zac_plan.specs.Plan.{arrivals, back, carries, gates_act, gates_at, homes_for, pairs_at, reads_act, reads_in, to_sites}
+use Rattle.zac_plan.proofs.Growing.{goes_on_same}
+use Rattle.zac_plan.proofs.Planned.{DoesRounds, IsWholePlan, does_more, does_none, pulse_apart, pulse_below, pulse_few, pulse_homes, room_for, room_for_gates, slot_below, whole_plan}
 use Rattle.zac_plan.proofs.planner.planned.Goals as goal
 use Rattle.zac_plan.proofs.planner.planned.Goals.{In_ok-add_readout}
 
--- before the first op
-start : In_ok-add_readout → Planning
-start c = record { timeline = c.in_ok-starting.field-0; at_site = None; ones = c.new.result; reads = c.new-2.result }
+pub loop-t-init : goal.loop-t-init
+loop-t-init c =
+    subst (λ (l : List Shift). DoesRounds c.args.card.now c.args.circuit.now c.args.stages.now c.in_ok-timeline.timeline c.in_ok-timeline.timeline l 0) (sym c.new-at_sites.ensures.items)
+    (does_none c.args.card.now c.args.circuit.now c.args.stages.now c.in_ok-timeline.timeline)
 
-first : (c : In_ok-add_readout) → c.in_ok-starting.field-0.instrs.items ≡ (record { begin = 0; end = 0; act = Init (homes_for c.args.qubits) }) ∷ []
+pub add_round-requires-clause-slot_in : goal.add_round-requires-clause-slot_in
+add_round-requires-clause-slot_in c =
+    subst (λ (l : List Op). All (λ k. k < length l) c.gates-slot.result.now) (sym c.ops-ops.ensures.value)
+    (slot_below c.args.card.now c.args.circuit.now c.args.stages.now c.figures-figures.ensures.rules c.requires.fits c.ops-ops.ensures.valid c.requires.stages c.loop-t.t c.gates-slot.result.now c.gates-slot.ensures)
+
+pub add_round-requires-clause-pulse_in : goal.add_round-requires-clause-pulse_in
+add_round-requires-clause-pulse_in c =
+    subst (λ (l : List Op). All (λ k. k < length l) c.pairs-pulse.result.now) (sym c.ops-ops.ensures.value)
+    (pulse_below c.args.card.now c.args.circuit.now c.args.stages.now c.figures-figures.ensures.rules c.requires.fits c.ops-ops.ensures.valid c.requires.stages c.loop-t.t c.pairs-pulse.result.now c.pairs-pulse.ensures)
+
+pub add_round-requires-clause-few : goal.add_round-requires-clause-few
+add_round-requires-clause-few c =
+    pulse_few c.args.card.now c.args.circuit.now c.args.stages.now c.figures-figures.ensures.rules c.requires.fits c.ops-ops.ensures.valid c.requires.stages c.loop-t.t c.pairs-pulse.result.now c.pairs-pulse.ensures
+
+pub add_round-requires-clause-homes : goal.add_round-requires-clause-homes
+add_round-requires-clause-homes c =
+    subst (λ (l : List Op). All (HasHomes c.args.card.now) (pairs_at l c.pairs-pulse.result.now)) (sym c.ops-ops.ensures.value)
+    (pulse_homes c.args.card.now c.args.circuit.now c.args.stages.now c.figures-figures.ensures.rules c.requires.fits c.ops-ops.ensures.valid c.requires.stages c.loop-t.t c.pairs-pulse.result.now c.pairs-pulse.ensures)
+
+pub add_round-requires-clause-apart : goal.add_round-requires-clause-apart
+add_round-requires-clause-apart c =
+    subst (λ (l : List Op). AllPairs (λ (x y : Shift). x.q ≢ y.q) (to_sites c.args.card.now 0 (pairs_at l c.pairs-pulse.result.now))) (sym c.ops-ops.ensures.value)
+    (pulse_apart c.args.card.now c.args.circuit.now c.args.stages.now c.figures-figures.ensures.rules c.requires.fits c.ops-ops.ensures.valid c.requires.stages c.loop-t.t c.pairs-pulse.result.now c.pairs-pulse.ensures)
+
+pub add_round-requires-clause-room : goal.add_round-requires-clause-room
+add_round-requires-clause-room c =
+    let room =
+    room_for c.args.card.now c.args.circuit.now c.args.stages.now c.figures-figures.ensures.rules c.requires.fits c.ops-ops.ensures.valid c.requires.stages
+    c.in_ok-timeline.timeline c.loop-t.timeline c.loop-t.timeline c.loop-t.at_sites.items c.loop-t.at_sites.items c.loop-t.t c.gates-slot.result.now c.pairs-pulse.result.now c.loop-t.invariant c.gates-slot.ensures c.pairs-pulse.ensures
+    c.in_ok-timeline.ensures.now c.requires.few in
+    omega (arith, room, ap length c.as_slice.ensures.value)
+
+pub loop-t-preserved : goal.loop-t-preserved
+loop-t-preserved c =
+    let a = c.args.card.now in
+    let ops = c.args.circuit.now.ops in
+    let these = c.gates-slot.result.now in
+    let those = c.pairs-pulse.result.now in
+    let value = c.ops-ops.ensures.value in
+    let sites = c.as_slice.ensures.value in
+    let P : List Op → List Shift → List Act =
+    λ l at. gates_act (gates_at l these) ++ (carries a (map back at) ++ (carries a (arrivals a (pairs_at l those)) ++ Rydberg (pairs_at l those) ∷ [])) in
+    let on : GoesOn a.figures c.loop-t.timeline c.add_round.new.self (P ops c.loop-t.at_sites.items) =
+    subst (λ (l : List Op). GoesOn a.figures c.loop-t.timeline c.add_round.new.self (P l c.loop-t.at_sites.items)) value
+    (subst (λ (l : List Shift). GoesOn a.figures c.loop-t.timeline c.add_round.new.self (P c.ops-ops.result.now l)) sites c.in_ok-at_sites.ensures.ok) in
+    does_more a c.args.circuit.now c.args.stages.now c.figures-figures.ensures.rules c.requires.fits c.ops-ops.ensures.valid c.requires.stages
+    c.in_ok-timeline.timeline c.loop-t.timeline c.add_round.new.self c.loop-t.at_sites.items c.in_ok-at_sites.at_sites.items c.loop-t.t these those c.loop-t.invariant c.gates-slot.ensures c.pairs-pulse.ensures
+    on (c.in_ok-at_sites.ensures.arrived ∙ ap (λ (l : List Op). arrivals a (pairs_at l those)) value) c.in_ok-at_sites.ensures.traps
+    (omega (arith, c.in_ok-at_sites.ensures.most, ap length sites))
+
+pub gates_at-requires : goal.gates_at-requires
+gates_at-requires c =
+    subst (λ (l : List Op). All (λ k. k < length l) c.gates.result.now) (sym c.ops-ops.ensures.value)
+    (slot_below c.args.card.now c.args.circuit.now c.args.stages.now c.figures-figures.ensures.rules c.requires.fits c.ops-ops.ensures.valid c.requires.stages c.pulses-pulses.result c.gates.result.now c.gates.ensures)
+
+pub add_gates-requires-clause-room : goal.add_gates-requires-clause-room
+add_gates-requires-clause-room c =
+    let at_end : c.loop-t.t ≡ c.pulses-pulses.result = omega arith in
+    let room =
+    room_for_gates c.args.card.now c.args.circuit.now c.args.stages.now c.figures-figures.ensures.rules c.requires.fits c.ops-ops.ensures.valid c.requires.stages
+    c.in_ok-timeline.timeline c.loop-t.timeline c.loop-t.timeline c.loop-t.at_sites.items c.loop-t.t c.gates.result.now c.loop-t.invariant (at_end ∙ c.pulses-pulses.ensures.value)
+    (ap (slice_get c.args.stages.now.gates) at_end ∙ c.gates.ensures) c.in_ok-timeline.ensures.now c.requires.few in
+    omega (arith, room, c.in_ok-ones.ensures.most)
+
+pub add_readout-requires-clause-room : goal.add_readout-requires-clause-room
+add_readout-requires-clause-room c =
+    let at_end : c.loop-t.t ≡ c.pulses-pulses.result = omega arith in
+    let room =
+    room_for_gates c.args.card.now c.args.circuit.now c.args.stages.now c.figures-figures.ensures.rules c.requires.fits c.ops-ops.ensures.valid c.requires.stages
+    c.in_ok-timeline.timeline c.loop-t.timeline c.loop-t.timeline c.loop-t.at_sites.items c.loop-t.t c.gates.result.now c.loop-t.invariant (at_end ∙ c.pulses-pulses.ensures.value)
+    (ap (slice_get c.args.stages.now.gates) at_end ∙ c.gates.ensures) c.in_ok-timeline.ensures.now c.requires.few in
+    omega (arith, room, c.in_ok-ones.ensures.most, c.in_ok-add_gates.ensures.most)
+
+-- before the first instruction but the homes
+first : (c : In_ok-add_readout) → c.in_ok-timeline.timeline.instrs.items ≡ (record { begin = 0; end = 0; act = Init (homes_for c.args.circuit.now.qubits) }) ∷ []
 first c =
-    c.in_ok-starting.ensures.instrs
-    ∙ ap (λ (l : List TrapId). (record { begin = 0; end = 0; act = Init l }) ∷ []) c.in_ok-homes.ensures
+    c.in_ok-timeline.ensures.instrs
+    ∙ ap (λ (l : List TrapId). (record { begin = 0; end = 0; act = Init l }) ∷ []) (c.in_ok-homes.ensures ∙ ap homes_for c.qubits.ensures)
 
-whole : (c : In_ok-add_readout) → IsWholePlan c.args.card.now c.args.qubits c.args.ops.now c.add_readout.new.self.instrs.items
-unfolding start
+whole : (c : In_ok-add_readout) → IsWholePlan c.args.card.now c.args.circuit.now c.args.stages.now c.figures-figures.ensures.rules c.requires.fits c.ops-ops.ensures.valid c.requires.stages c.add_readout.new.self.instrs.items
 whole c =
-    whole_plan c.args.card.now c.args.qubits c.args.ops.now (start c) c.take_all.new.self c.add_gates.new.self c.add_readout.new.self
-    (first c) c.in_ok-starting.ensures.now refl c.new.ensures.items c.new-2.ensures.items c.in_ok-take_all.ensures.takes
-    c.in_ok-add_gates.ensures.ok c.in_ok-add_readout.ensures.ok c.requires.few (omega (arith, c.in_ok-add_gates.ensures.most)) c.in_ok-add_readout.ensures.most
+    let f = c.args.card.now.figures in
+    let these = c.gates.result.now in
+    let value = c.ops-ops.ensures.value in
+    let at_end : c.loop-t.t ≡ c.pulses-pulses.result = omega arith in
+    let gates = goes_on_same f c.loop-t.timeline c.add_gates.new.self (gates_act c.in_ok-ones.ones.items) (gates_act (gates_at c.args.circuit.now.ops these))
+    (ap gates_act (c.in_ok-ones.ensures.gates ∙ ap (λ (l : List Op). gates_at l these) value)) c.in_ok-add_gates.ensures.ok in
+    let readout = goes_on_same f c.add_gates.new.self c.add_readout.new.self (reads_act c.in_ok-reads.reads.items) (reads_act (reads_in c.args.circuit.now.ops))
+    (ap reads_act (c.in_ok-reads.ensures.reads ∙ ap reads_in value)) c.in_ok-add_readout.ensures.ok in
+    whole_plan c.args.card.now c.args.circuit.now c.args.stages.now c.figures-figures.ensures.rules c.requires.fits c.ops-ops.ensures.valid c.requires.stages
+    c.in_ok-timeline.timeline c.loop-t.timeline c.add_readout.new.self c.loop-t.at_sites.items c.loop-t.t these c.loop-t.invariant (at_end ∙ c.pulses-pulses.ensures.value)
+    (ap (slice_get c.args.stages.now.gates) at_end ∙ c.gates.ensures) (first c) c.in_ok-timeline.ensures.now c.add_gates.new.self gates readout
+    c.requires.few (omega (arith, c.in_ok-ones.ensures.most, c.in_ok-add_gates.ensures.most)) c.in_ok-add_readout.ensures.most
 
 pub returns-clause-does : goal.returns-clause-does
 returns-clause-does c = (whole (goal.at.returns-clause-does c).In_ok-add_readout).does
@@ -32,5 +122,5 @@ returns-clause-chain c = (whole (goal.at.returns-clause-chain c).In_ok-add_reado
 pub returns-clause-ends : goal.returns-clause-ends
 returns-clause-ends c = (whole (goal.at.returns-clause-ends c).In_ok-add_readout).ends
 
-pub returns-clause-angles : goal.returns-clause-angles
-returns-clause-angles c = (whole (goal.at.returns-clause-angles c).In_ok-add_readout).angles
+pub returns-clause-in_range : goal.returns-clause-in_range
+returns-clause-in_range c = (whole (goal.at.returns-clause-in_range c).In_ok-add_readout).in_range

@@ -17,7 +17,7 @@ returns-clause-ok c =
     let lasts : LastTogether f [] (steps_of (Gates c.args.ones.items)) (c.len.result * c.from.result) =
     subst (λ (n : ℕ). LastTogether f [] (steps_of (Gates c.args.ones.items)) n) duration (gates_last f [] c.args.ones.items) in
     let some : 0 < length c.args.ones.items = grind (arith, nat_tests) in
-    goes_on_same f _ _ _ _ (gates_are c.args.ones.items some) (goes_on_by f c.args.self.now c.push.new.self (Gates c.args.ones.items) (c.len.result * c.from.result) lasts
+    goes_on_same f _ _ _ _ (gates_are c.args.ones.items some) (goes_on_by f c.args.self.now c.push.new.self (Gates c.args.ones.items) (c.len.result * c.from.result) c.requires.fits lasts
     (let pushed = c.in_ok-push.ensures.instrs in cc) c.in_ok-push.ensures.now)
 
 pub returns-clause-most : goal.returns-clause-most

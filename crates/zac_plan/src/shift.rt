@@ -1,0 +1,30 @@
+//! Atoms that go from trap to trap.
+
+use zac_arch::TrapId;
+
+/// The atom of a qubit goes from one trap to another.
+#[derive(Clone, Copy, Debug, PartialEq, Eq)]
+pub struct Shift {
+    /// The qubit.
+    pub q: u32,
+    /// The trap in which its atom rests.
+    pub from: TrapId,
+    /// The trap to which it goes.
+    pub to: TrapId,
+}
+
+impl Shift {
+    ghost use Rattle.std.specs.Prelude.{◌≡◌};
+    ghost use Rattle.zac_plan.specs.Plan.{back};
+
+    /// The way back.
+    pub fn back(&self) -> Shift
+        ensures { result ≡ back self.now }
+    {
+        Shift {
+            q: self.q,
+            from: self.to,
+            to: self.from,
+        }
+    }
+}
