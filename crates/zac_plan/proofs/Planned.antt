@@ -8,7 +8,7 @@ use Rattle.zac_arch.specs.Rules.{KeepsRules}
 use Rattle.zac_arch.specs.declared.place.TrapId.{TrapId}
 use Rattle.zac_arch.proofs.Geometry.{storage_count_most, trap_count_is}
 use Rattle.zac_gates.specs.Ops.{NativeCircuit, IsValid}
-use Rattle.zac_stage.specs.Numbers.{is_one_of, is_pair_of}
+use Rattle.zac_stage.specs.Numbers.{is_one_of, is_pair_of, NumbersFollow}
 use Rattle.zac_stage.specs.Staging.{Staging, IsStaging}
 use Rattle.zair_form.specs.Ranges.{ActFits, IsNumber}
 use Rattle.zair_form.specs.declared.program.Act.{Act}
@@ -31,6 +31,10 @@ all_at_place : {X : Type 0} (P : X → Type 0) (xs : List X) (k : ℕ) (x : X) �
 all_at_place P [] k x h at = cc
 all_at_place P (y ∷ ys) zero x h at = let same : y ≡ x = cc in subst P same h.0
 all_at_place P (y ∷ ys) (suc k) x h at = all_at_place P ys k x h.1 at
+
+pub all_from_places : {X : Type 0} (P : X → Type 0) (xs : List X) → ((k : ℕ) (x : X) → slice_get xs k ≡ Some x → P x) → AllByRecursion P xs
+all_from_places P [] h = tt
+all_from_places P (x ∷ xs) h = (h 0 x refl, all_from_places P xs (λ k y at. h (suc k) y at))
 
 drop_at : {X : Type 0} (xs : List X) (n : ℕ) (x : X) → slice_get xs n ≡ Some x → drop n xs ≡ x ∷ drop (n + 1) xs
 drop_at [] n x h = cc
@@ -247,3 +251,15 @@ module _ (a : Architecture) (c : NativeCircuit) (s : Staging) (rules : KeepsRule
         ends = omega (arith, ends_now, room_for_gates now few);
         in_range = all_fit;
       }
+
+-- The stages of a circuit for as many pairs as there are sites, by the laws of right stages.
+pub staging_of : (a : Architecture) (c : NativeCircuit) (s : Staging) → IsStaging s → s.circuit ≡ c → s.sites ≡ site_count a → NumbersFollow s.circuit.ops s.numbers →
+    ((t : ℕ) (numbers : List ℕ) → slice_get s.pairs t ≡ Some numbers → (1 ≤ length numbers) × (length numbers ≤ s.sites)) → IsStagingOf a c s
+staging_of a c s right circuit sites follow filled = record {
+  right = right;
+  circuit = circuit;
+  sites = sites;
+  follow = follow;
+  few = all_from_places (λ numbers. length numbers ≤ s.sites) s.pairs (λ t numbers at. (filled t numbers at).1);
+  some = all_from_places (λ numbers. 1 ≤ length numbers) s.pairs (λ t numbers at. (filled t numbers at).0);
+}

@@ -1,9 +1,23 @@
-use Rattle.std.proofs.Common.{◌≡◌, ◌≤◌, arith, length, slice_get, Some, ap, ◌∙◌, sym, subst}
-use Rattle.zac_arch.specs.Architecture.{site_count}
+use Rattle.std.proofs.Common.{◌≤◌, ◌∙◌, arith, subst, sym}
 use Rattle.zac_arch.proofs.Geometry.{site_count_least}
 use Rattle.zac_plan.specs.Growth.{IsStagingOf}
-use Rattle.zac_plan.proofs.Planned.{all_from_places}
+use Rattle.zac_plan.proofs.Planned.{staging_of}
 use Rattle.zac_plan.proofs.planner.compile.Goals as goal
+use Rattle.zac_plan.proofs.planner.compile.Goals.{After-pulses_are_filled}
 
-pub stage-stages-requires : goal.stage-stages-requires
-stage-stages-requires c = ?
+pub stage-requires : goal.stage-requires
+stage-requires c = omega (arith, c.sites.ensures, site_count_least c.args.card.now c.figures-figures.ensures.rules)
+
+staged : (c : After-pulses_are_filled) → IsStagingOf c.args.card.now c.args.circuit.now c.in_ok-stages.stages
+staged c =
+    let s = c.in_ok-stages.stages in
+    let is = c.in_ok-stages.ensures in
+    let some : 1 ≤ s.sites = omega (arith, is.2, c.sites.ensures, site_count_least c.args.card.now c.figures-figures.ensures.rules) in
+    staging_of c.args.card.now c.args.circuit.now s is.0 is.1 (is.2 ∙ c.sites.ensures) (c.numbers_follow.ensures s.circuit.ops s.sites s.numbers is.0.numbered)
+    (λ t numbers at. c.pulses_are_filled.ensures s t numbers some is.0 at)
+
+pub planned-requires-clause-stages : goal.planned-requires-clause-stages
+planned-requires-clause-stages c = staged (goal.at.planned-requires-clause-stages c).After-pulses_are_filled
+
+pub program_of-requires-clause-stages : goal.program_of-requires-clause-stages
+program_of-requires-clause-stages c = staged (goal.at.program_of-requires-clause-stages c).After-pulses_are_filled
