@@ -20,4 +20,6 @@ mod matchings;
 #[cfg(test)]
 mod plans;
 #[cfg(test)]
+mod staging;
+#[cfg(test)]
 mod text;
