@@ -1,3 +1,4 @@
+pub mod Existence
 pub mod NumbersFacts
 pub mod RowsFacts
 pub mod StagingFacts

@@ -3,7 +3,7 @@
 ghost use Rattle.std.specs.Prelude.{◌≡◌, ◌≢◌, ℕ, ◌≤◌, List, Some, length};
 ghost use Rattle.std.specs.List.{slice_get, Contains};
 ghost use Rattle.zac_gates.specs.declared.circuit.Op.{Op};
-ghost use Rattle.zac_gates.specs.Ops.{Names};
+ghost use Rattle.zac_gates.specs.Ops.{NativeCircuit, IsValid, Names};
 ghost use Rattle.zac_stage.specs.Numbers.{IsNumbering, NumbersFollow};
 ghost use Rattle.zac_stage.specs.Staging.{Staging, IsStaging};
 
@@ -11,6 +11,12 @@ ghost use Rattle.zac_stage.specs.Staging.{Staging, IsStaging};
 pub fn numbers_follow()
     ensures { (ops : List Op) (sites : ℕ) (numbers : List ℕ) → IsNumbering ops sites numbers
         → NumbersFollow ops numbers }
+{}
+
+/// The ops of each circuit have right numbers, where a pulse has a site.
+pub fn each_circuit_has_right_numbers()
+    ensures { (c : NativeCircuit) (sites : ℕ) → IsValid c → 1 ≤ sites
+        → (numbers : List ℕ) × IsNumbering c.ops sites numbers }
 {}
 
 /// No two numberings of a list are right.
