@@ -339,4 +339,5 @@ def main():
         print(line if line.startswith("#") else answer(unescaped(line)))
 
 
-main()
+if __name__ == "__main__":
+    main()

@@ -4,17 +4,15 @@ which are another program in another language than the compiler.
 
     cases.py <crates/cases/stdin >crates/cases/stdout
 """
-import json
 import os
 import sys
 
-import front
 import plan
 
 DATA = os.path.join(os.path.dirname(os.path.abspath(__file__)), "../crates/cases/data")
 ROOM = 16777216
-USAGE = (2, "usage: compile CARD QASM\n")
-READ = (3, "read fault: source\n")
+USAGE = (2, "usage: compile CARD QASM | make N K\n")
+LIMITS = {"card": 65536, "source": 4194304}
 
 
 def unescaped(text):
@@ -32,12 +30,12 @@ def unescaped(text):
     return bytes(out)
 
 
-def calls_to_read(length):
+def calls_to_read(length, limit):
     """How many calls of the shelf read a file: one picks it, each further one fills a buffer, and the last tells the end."""
     calls, filled, room = 1, 0, 0
-    while filled < 4194305:
+    while filled < limit + 1:
         if filled == room:
-            room = min(max(room * 2, 4096), 4194305)
+            room = min(max(room * 2, 4096), limit + 1)
         calls += 1
         if filled == length:
             break
@@ -48,24 +46,15 @@ def calls_to_read(length):
 KNOWN = {}
 
 
-def compiled(source):
+def compiled(card, source):
     """The status, the line, and the lines of the text."""
-    if source not in KNOWN:
-        KNOWN[source] = judged(source)
-    return KNOWN[source]
+    if (card, source) not in KNOWN:
+        KNOWN[card, source] = plan.judged(card, source)
+    return KNOWN[card, source]
 
 
-def judged(source):
-    try:
-        scope = front.program(source)
-        ops = front.native(scope)
-    except front.Refused as fault:
-        return 1, "source refused: %s at %d\n" % fault.args, []
-    except front.Limited as fault:
-        return 11, "limit: %s %d\n" % fault.args, []
-    if scope.qubits > plan.STORAGE:
-        return 7, f"too many qubits: {scope.qubits} for {plan.STORAGE} traps\n", []
-    return 0, "", [json.dumps(line, sort_keys=True, separators=(",", ":")) + "\n" for line in plan.plan(scope.qubits, ops)]
+def is_number(word, least, most):
+    return word.isascii() and word.isdigit() and word == str(int(word)) and least <= int(word) <= most
 
 
 class Case:
@@ -76,18 +65,27 @@ class Case:
     def ended(self):
         """The status, what err holds, and what out holds."""
         words = self.words.split()
-        if len(words) != 3 or words[:2] != ["compile", "@tiny"]:
+        if len(words) == 3 and words[0] == "make" and is_number(words[1], 2, 4096) and is_number(words[2], 0, 50000):
+            return self.written([plan.pairs_source(int(words[1]), int(words[2]))])
+        if len(words) != 3 or words[0] != "compile":
             return *USAGE, ""
-        if 1 in self.failing["shelf"] or words[2] not in self.files:
-            return *READ, ""
-        source = bytes(self.files[words[2]])
-        if any(call <= calls_to_read(len(source)) for call in self.failing["shelf"]):
-            return *READ, ""
-        if len(source) > 4194304:
-            return 10, "too long: source\n", ""
-        status, line, text = compiled(source)
-        if status:
-            return status, line, ""
+        given, calls = {}, 0
+        for kind, name in (("card", words[1]), ("source", words[2])):
+            if kind == "card" and name in ("@tiny", "@standard"):
+                given[kind] = plan.built_in(name)
+                continue
+            data = bytes(self.files.get(name, b""))
+            needed = calls_to_read(len(data), LIMITS[kind]) if name in self.files else 1
+            if name not in self.files or any(calls < call <= calls + needed for call in self.failing["shelf"]):
+                return 3, f"read fault: {kind}\n", ""
+            calls += needed
+            if len(data) > LIMITS[kind]:
+                return 10, f"too long: {kind}\n", ""
+            given[kind] = data
+        status, line, text = compiled(given["card"], given["source"])
+        return (status, line, "") if status else self.written(text)
+
+    def written(self, text):
         out = ""
         for number, each in enumerate(text, 1):
             if number in self.failing["out"]:

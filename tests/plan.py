@@ -1,49 +1,111 @@
 #!/usr/bin/env python3
-"""What `compile @tiny` answers on a source, worked out anew from the rules in docs/, in another language and by another
-hand than the compiler: the text or the line of the refusal on standard output, and the status.
+"""What `compile CARD FILE` answers, worked out anew from the rules in docs/, in another language and by another hand than the
+compiler: the text or the line of the refusal on standard output, and the status.
 
-    plan.py FILE            the answer for a source
+    plan.py CARD FILE       the answer for a card, which is `@tiny`, `@standard` or a file, and a source
     plan.py --make N SEED   a source of N statements, drawn by the seed, in which names, sizes and indices are right
     plan.py --break N SEED  a source of N statements, drawn by the seed, in which a few things may be wrong
+    plan.py --pairs N K     the source that `make N K` writes
 """
 import json
+import math
+import os
 import random
 import sys
 
+import cards
 import front
 
-ACCELERATION = 2750
-ACTIVATE, DEACTIVATE, ONE, PULSE, READOUT = 15000, 15000, 52000, 360, 1000000
-TRAPS = [(0, 0), (30, 0), (60, 0), (90, 0), (0, 100), (20, 100), (120, 100), (140, 100)]
-STORAGE, LEFT, RIGHT = 4, 4, 5
+EXAMPLES = os.path.join(os.path.dirname(os.path.abspath(__file__)), "../examples/cards")
 
 
-def move_time(dx, dy):
-    """The least whole t with acceleration^2 * t^4 >= (dx^2 + dy^2) * 10^22."""
-    t = 0
-    while ACCELERATION**2 * t**4 < (dx**2 + dy**2) * 10**22:
-        t += 1
-    return t
+class Card:
+    """The traps of a card by number, storage first, and then two for each site, the left one first."""
+
+    def __init__(self, card):
+        self.figures, self.points = card, []
+        for kind in ("storage", "entangling"):
+            for zone in card[kind]:
+                for row in range(zone["rows"]):
+                    for column in range(zone["columns"]):
+                        x, y = zone["x"] + column * zone["dx"], zone["y"] + row * zone["dy"]
+                        self.points += [(x, y)] + ([(x + zone["pair"], y)] if kind == "entangling" else [])
+            if kind == "storage":
+                self.storage = len(self.points)
+        self.sites = (len(self.points) - self.storage) // 2
+        self.times = {}
+
+    def move_time(self, dx, dy):
+        """The least whole t with acceleration^2 * t^4 >= (dx^2 + dy^2) * 10^22."""
+        if (dx, dy) not in self.times:
+            square, enough = self.figures["accel"] ** 2, (dx**2 + dy**2) * 10**22
+            t = math.isqrt(math.isqrt(enough // square))
+            while square * t**4 < enough:
+                t += 1
+            self.times[dx, dy] = t
+        return self.times[dx, dy]
 
 
-TIMES = {}
+CARDS = {}
 
 
-def flight(q, source, target):
-    (x, y), (u, v) = TRAPS[source], TRAPS[target]
-    way = (abs(x - u), abs(y - v))
-    if way not in TIMES:
-        TIMES[way] = move_time(*way)
+def card_of(data):
+    """A card from the bytes of its text."""
+    if data not in CARDS:
+        CARDS[data] = Card(cards.parsed(data))
+    return CARDS[data]
+
+
+def built_in(name):
+    """The text of a built-in card."""
+    with open(f"{EXAMPLES}/{name[1:]}.json", "rb") as file:
+        return file.read()
+
+
+def flight(card, q, source, target):
+    (x, y), (u, v) = card.points[source], card.points[target]
     steps = [
         {"step": "activate", "rows": [[0, y]], "columns": [[0, x]], "atoms": [[q, 0, 0]]},
         {"step": "move", "rows": [[0, v]], "columns": [[0, u]]},
         {"step": "deactivate", "rows": [0], "columns": [0], "atoms": [[q, target]]},
     ]
-    return {"type": "rearrangeJob", "aod": 0, "steps": steps}, ACTIVATE + TIMES[way] + DEACTIVATE
+    duration = card.figures["activate"] + card.move_time(abs(x - u), abs(y - v)) + card.figures["deactivate"]
+    return {"type": "rearrangeJob", "aod": 0, "steps": steps}, duration
 
 
-def plan(qubits, ops):
-    now, gates, reads, at_site = 0, [], [], None
+def stages(ops, sites):
+    """The pairs of each pulse, and the one-qubit gates of each slot: each pair has the least number from its floor on that has
+    room, and each gate its floor, which is one more than the greatest number of an earlier pair on one of its qubits or
+    before a fence that stands between."""
+    pulses, slots, floors, fenced, most = [], {}, {}, 0, 0
+    for number, op in enumerate(ops):
+        if op[0] == "fence":
+            fenced = most
+        if op[0] == "one":
+            slots.setdefault(max(fenced, floors.get(op[1], 0)), []).append({"op": number, "q": op[1], "u": op[2]})
+        if op[0] == "two":
+            pulse = max(fenced, *(floors.get(q, 0) for q in op[1:]))
+            while pulse < len(pulses) and len(pulses[pulse]) == sites:
+                pulse += 1
+            if pulse == len(pulses):
+                pulses.append([])
+            pulses[pulse].append([number, *op[1:]])
+            floors.update({q: pulse + 1 for q in op[1:]})
+            most = max(most, pulse + 1)
+    return pulses, [slots.get(t, []) for t in range(len(pulses) + 1)]
+
+
+def places(card, pulse):
+    """The trap of each qubit of a pulse: gate k is at site k, and the qubit whose home stands further left is at the left."""
+    found = {}
+    for site, (_, *pair) in enumerate(pulse):
+        for side, q in enumerate(sorted(pair, key=lambda q: (card.points[q][0], q))):
+            found[q] = card.storage + 2 * site + side
+    return found
+
+
+def plan(card, qubits, ops):
+    now = 0
     yield {"type": "zair", "version": 1}
 
     def timed(instruction, duration):
@@ -52,28 +114,59 @@ def plan(qubits, ops):
         instruction["end"] = now
         return instruction
 
+    figures, at_site = card.figures, {}
+    pulses, slots = stages(ops, card.sites)
     yield timed({"type": "init", "homes": list(range(qubits))}, 0)
-    for number, op in enumerate(ops):
-        if op[0] == "one":
-            gates.append({"op": number, "q": op[1], "u": op[2]})
-        if op[0] == "read":
-            reads.append([number, op[1], op[2]])
-        if op[0] != "two":
-            continue
+    for t, gates in enumerate(slots):
         if gates:
-            yield timed({"type": "1qGate", "gates": gates}, ONE * len(gates))
-            gates = []
-        if at_site:
-            for q, place in zip(sorted(at_site), (LEFT, RIGHT)):
-                yield timed(*flight(q, place, q))
-        at_site = op[1:]
-        for q, place in zip(sorted(at_site), (LEFT, RIGHT)):
-            yield timed(*flight(q, q, place))
-        yield timed({"type": "rydberg", "pairs": [[number, *at_site]]}, PULSE)
-    if gates:
-        yield timed({"type": "1qGate", "gates": gates}, ONE * len(gates))
+            yield timed({"type": "1qGate", "gates": gates}, figures["one"] * len(gates))
+        if t == len(pulses):
+            break
+        for q, place in sorted(at_site.items()):
+            yield timed(*flight(card, q, place, q))
+        at_site = places(card, pulses[t])
+        for q, place in sorted(at_site.items()):
+            yield timed(*flight(card, q, q, place))
+        yield timed({"type": "rydberg", "pairs": pulses[t]}, figures["pulse"])
+    reads = [[number, op[1], op[2]] for number, op in enumerate(ops) if op[0] == "read"]
     if reads:
-        yield timed({"type": "readout", "reads": reads}, READOUT)
+        yield timed({"type": "readout", "reads": reads}, figures["readout"])
+
+
+def judged(card, source):
+    """The status, the line on standard error, and the lines of the text, for the bytes of a card and of a source."""
+    refusal = cards.answer(card)
+    if not refusal[0].isdigit():
+        return 6, f"card refused: {refusal}\n", []
+    card = card_of(card)
+    try:
+        scope = front.program(source)
+        ops = front.native(scope)
+    except front.Refused as fault:
+        return 1, "source refused: %s at %d\n" % fault.args, []
+    except front.Limited as fault:
+        return 11, "limit: %s %d\n" % fault.args, []
+    if scope.qubits > card.storage:
+        return 7, f"too many qubits: {scope.qubits} for {card.storage} traps\n", []
+    lines = plan(card, scope.qubits, ops)
+    return 0, "", [json.dumps(line, sort_keys=True, separators=(",", ":")) + "\n" for line in lines]
+
+
+def pairs_source(n, k):
+    """The source of n qubits and k pairs, drawn by a linear congruence."""
+    state = 1
+
+    def drawn():
+        nonlocal state
+        state = (state * 1103515245 + 12345) % 2147483648
+        return state // 65536
+
+    text = f'OPENQASM 2.0;\ninclude "qelib1.inc";\nqreg q[{n}];\n'
+    for _ in range(k):
+        a, b = drawn() % n, drawn() % (n - 1)
+        b += b >= a
+        text += f"t q[{a}];\ncx q[{a}],q[{b}];\n"
+    return text
 
 
 def angle(draw, names, depth=0):
@@ -217,21 +310,20 @@ def main():
         blanks = ["\n", " ", "\t", "\r\n", " // CX a[0],b[0];\n"]
         sys.stdout.write("".join(s + drawing.draw.choice(blanks) for s in drawing.statements(int(sys.argv[2]))))
         return 0
-    try:
-        scope = front.program(open(sys.argv[1], "rb").read())
-        ops = front.native(scope)
-    except front.Refused as fault:
-        print("source refused: %s at %d" % fault.args)
-        return 1
-    except front.Limited as fault:
-        print("limit: %s %d" % fault.args)
-        return 11
-    if scope.qubits > STORAGE:
-        print(f"too many qubits: {scope.qubits} for {STORAGE} traps")
-        return 7
-    for line in plan(scope.qubits, ops):
-        print(json.dumps(line, sort_keys=True, separators=(",", ":")))
-    return 0
+    if sys.argv[1] == "--pairs":
+        sys.stdout.write(pairs_source(int(sys.argv[2]), int(sys.argv[3])))
+        return 0
+    name, source = sys.argv[1:]
+    with open(source, "rb") as file:
+        source = file.read()
+    if name.startswith("@"):
+        card = built_in(name)
+    else:
+        with open(name, "rb") as file:
+            card = file.read()
+    status, line, text = judged(card, source)
+    sys.stdout.write(line or "".join(text))
+    return status
 
 
 if __name__ == "__main__":

@@ -1,79 +1,201 @@
--- How a run ends: the status that its file deserves.
-use Rattle.std.proofs.Common.{◌≡◌, ◌≢◌, ℕ, ◌≤◌, ◌⊎◌, inl, inr, List, Option, None, Some, refl, sym, ap, ◌∙◌, subst, arith}
-use Rattle.zac_arch.specs.Architecture.{storage_count}
-use Rattle.zac_arch.specs.Tiny.{tiny_architecture}
+-- How a run ends: the status that its files deserve.
+use Rattle.std.proofs.Common.{◌≡◌, ◌≢◌, ℕ, ◌≤◌, ◌⊎◌, inl, inr, List, Option, None, Some, codes, refl, sym, ap, ◌∙◌, subst, arith}
+use Rattle.zac_arch.specs.Architecture.{Architecture, storage_count}
 use Rattle.zac_gates.specs.Ops.{NativeCircuit}
 use Rattle.zac_io.specs.Outside.{NamedFiles}
-use Rattle.zac_flow.specs.Answers.{WritesProgram, IsOnShelf, IsExact}
-use Rattle.zac_flow.specs.Compiled.{MayHold, IsReadAs, CompilesTo}
-use Rattle.zac_flow.specs.Faults.{IsFaultOf, IsFaultOrWant, Means, status_of}
+use Rattle.zac_flow.specs.Answers.{Does, WritesProgram, HasCard, HasInputs, IsExact}
+use Rattle.zac_flow.specs.Compiled.{AreReadAs, CompilesTo}
+use Rattle.zac_flow.specs.Faults.{IsFaultOf, IsFaultOrWant, Means, MeansOfCompiling, status_of}
+use Rattle.zac_flow.specs.Inputs.{Gives, GivesCard, IsLongCard, IsShortCard}
+use Rattle.zac_flow.specs.Words.{Command, Compile, Make}
 use Rattle.qasm_expand.specs.Expansion.{IsWithinLimits}
 use Rattle.qasm_expand.specs.Items.{qubit_count}
 use Rattle.qasm_names.specs.Accepted.{Program}
+use Rattle.zac_flow.specs.declared.inputs.CardInput.{CardInput}
+use Rattle.zac_flow.specs.declared.inputs.CardInput.TheVariants.{Tiny, Standard, Text}
+use Rattle.zac_flow.specs.declared.inputs.Inputs.{Inputs}
 use Rattle.zac_flow.specs.declared.status.Fault.{Fault}
-use Rattle.zac_flow.specs.declared.status.Fault.TheVariants.{Usage, Read, Long, Source, Limit, Qubits, Write, Memory}
+use Rattle.zac_flow.specs.declared.status.Fault.TheVariants.{Usage, Read, Long, Card, Source, Limit, Qubits, Write, Memory}
+use Rattle.zac_flow.specs.declared.status.InputFile.TheVariants as file
 use Rattle.zac_flow.specs.declared.status.Status.{Status}
-use Rattle.zac_flow.specs.declared.status.Status.TheVariants.{Done, NoMemory, ReadFault, WriteFault}
-use Rattle.zac_flow.proofs.OneFault.{fault_once, fits_or_fault}
+use Rattle.zac_flow.specs.declared.status.Status.TheVariants.{Done, NoMemory, ReadFault, WriteFault, TooLong}
+use Rattle.zac_flow.proofs.OneFault.{CardsAreOne, fault_once, fits_or_fault, short_card}
 
--- what a shelf tells of a file is what it holds
-same_bytes : (files : Option NamedFiles) (name : Option (List ℕ)) (bytes found : List ℕ) → IsOnShelf files name bytes → MayHold files name found → found ≡ bytes
-same_bytes files None bytes found on held = absurd on
-same_bytes None (Some text) bytes found on held = absurd on
-same_bytes (Some file) (Some text) bytes found on held = let same : Some found ≡ Some bytes = sym held ∙ on in cc
+-- what a shelf tells of a card is what is given
+same_card : (files : Option NamedFiles) (word : List ℕ) (c d : CardInput) → HasCard files word c → GivesCard files word d → d ≡ c
+same_card None word c d on given = absurd on
+same_card (Some file) word Tiny Tiny on given = refl
+same_card (Some file) word Tiny Standard on given = let e : codes "@tiny" ≡ codes "@standard" = sym on ∙ given in absurd (cc)
+same_card (Some file) word Tiny (Text b) on given = absurd (given.0 on)
+same_card (Some file) word Standard Tiny on given = let e : codes "@tiny" ≡ codes "@standard" = sym given ∙ on in absurd (cc)
+same_card (Some file) word Standard Standard on given = refl
+same_card (Some file) word Standard (Text b) on given = absurd (given.1 on)
+same_card (Some file) word (Text b) Tiny on given = absurd (on.0 given)
+same_card (Some file) word (Text b) Standard on given = absurd (on.1 given)
+same_card (Some file) word (Text b) (Text d) on given = let same : Some d ≡ Some b = sym given.2 ∙ on.2 in cc
 
-module _ (files : Option NamedFiles) (name : Option (List ℕ)) where
-  -- a program that was written has no fault
-  done_or_fault : (old new : Option (List ℕ)) → WritesProgram files name old new → (bytes : List ℕ) → IsOnShelf files name bytes → (g : Fault) → IsFaultOf bytes g → ⊥
-  done_or_fault old new wrote bytes on g h = fits_or_fault bytes c.is.source is c.is.limits fits g h where
+-- a source alike
+same_source : (files : Option NamedFiles) (card source : List ℕ) (i j : Inputs) → HasInputs files card source i → Gives files (Compile card source) j → j.source ≡ i.source
+same_source None card source i j on given = absurd on
+same_source (Some file) card source i j on given = let same : Some j.source ≡ Some i.source = sym given.1 ∙ on.1 in cc
+
+has_card : (files : Option NamedFiles) (card source : List ℕ) (i : Inputs) → HasInputs files card source i → HasCard files card i.card
+has_card None card source i on = absurd on
+has_card (Some file) card source i on = on.0
+
+same_inputs : (files : Option NamedFiles) (card source : List ℕ) (i j : Inputs) → HasInputs files card source i → Gives files (Compile card source) j → j ≡ i
+same_inputs files card source i j on given =
+    let e = same_card files card i.card j.card (has_card files card source i on) given.0 in
+    let f = same_source files card source i j on given in
+    λ k. record { card = e k; source = f k }
+
+-- a card isn't both too long and not
+long_or_short : (c : CardInput) → IsLongCard c → IsShortCard c → ⊥
+long_or_short Tiny long short = long
+long_or_short Standard long short = long
+long_or_short (Text b) long short = omega (arith, long, short)
+
+module _ (cards : CardsAreOne) (files : Option NamedFiles) (card source : List ℕ) where
+  -- what compiles has no fault
+  done_or_fault : (old new : Option (List ℕ)) → WritesProgram files (Compile card source) old new → (i : Inputs) → HasInputs files card source i → (g : Fault) → IsFaultOf i g → ⊥
+  done_or_fault old new wrote i on g h = fits_or_fault cards i c.card c.is.source is c.is.limits fits g h where
     c : CompilesTo wrote.compiles.0 wrote.program
     c = wrote.compiles.2
 
-    is : IsReadAs bytes c.is.source
-    is = subst (λ (l : List ℕ). IsReadAs l c.is.source) (same_bytes files name bytes wrote.compiles.0 on wrote.compiles.1) c.is.is
+    is : AreReadAs i c.card c.is.source
+    is = subst (λ (x : Inputs). AreReadAs x c.card c.is.source) (same_inputs files card source i wrote.compiles.0 on wrote.compiles.1) c.is.is
 
-    fits : qubit_count c.is.source.statements ≤ storage_count tiny_architecture
+    fits : qubit_count c.is.source.statements ≤ storage_count c.card
     fits =
         let count : c.circuit.qubits ≡ qubit_count c.is.source.statements = ap (λ (x : NativeCircuit). x.qubits) c.is.expansion.is in
         omega (arith, count, c.fits)
 
-  pub done_exact : (old new : Option (List ℕ)) → WritesProgram files name old new → IsExact files name Done
-  done_exact old new wrote = record {
-    refused = λ bytes g on h. absurd (done_or_fault old new wrote bytes on g h);
-    accepted = λ bytes source on is limits fits. inl refl;
+  done_or_long : (old new : Option (List ℕ)) → WritesProgram files (Compile card source) old new → (c : CardInput) → HasCard files card c → IsLongCard c → ⊥
+  done_or_long old new wrote c on long =
+      let short : IsShortCard wrote.compiles.0.card = wrote.compiles.2.is.is.short.card in
+      long_or_short c long (subst IsShortCard (same_card files card c wrote.compiles.0.card on wrote.compiles.1.0) short)
+
+  of_inputs : (i : Inputs) → HasInputs files card source i → (f : Fault) → (j : Inputs) × Gives files (Compile card source) j × IsFaultOf j f → IsFaultOrWant i f
+  of_inputs i on f h = inr (subst (λ (x : Inputs). IsFaultOf x f) (same_inputs files card source i h.0 on h.1) h.2)
+
+  -- where no call fails, a fault behind a card within its limit is one of what is given, or want of memory
+  of_files : (i : Inputs) → HasInputs files card source i → IsShortCard i.card → (f : Fault) → MeansOfCompiling files card source f →
+      status_of f ≢ ReadFault → status_of f ≢ WriteFault → IsFaultOrWant i f
+  of_files i on short Usage h read write = absurd h.2
+  of_files i on short (Read which) h read write = absurd (read refl)
+  of_files i on short Write h read write = absurd (write refl)
+  of_files i on short Memory h read write = inl refl
+  of_files i on short (Long file.Card) h read write =
+      absurd (long_or_short h.0 h.2 (subst IsShortCard (sym (same_card files card i.card h.0 (has_card files card source i on) h.1)) short))
+  of_files i on short (Long file.Source) h read write = of_inputs i on (Long file.Source) h
+  of_files i on short (Card f) h read write = of_inputs i on (Card f) h
+  of_files i on short (Source k at) h read write = of_inputs i on (Source k at) h
+  of_files i on short (Limit k n) h read write = of_inputs i on (Limit k n) h
+  of_files i on short (Qubits n s) h read write = of_inputs i on (Qubits n s) h
+
+  -- behind a card that is too long every fault but want of memory says so
+  long_behind : (c : CardInput) → HasCard files card c → IsLongCard c → (f : Fault) → (j : Inputs) × Gives files (Compile card source) j × IsFaultOf j f → ⊥
+  long_behind c on long f h =
+      long_or_short c long (subst IsShortCard (same_card files card c h.0.card on h.1.0) (short_card cards h.0 f h.2))
+
+  of_long : (c : CardInput) → HasCard files card c → IsLongCard c → (f : Fault) → MeansOfCompiling files card source f →
+      status_of f ≢ ReadFault → status_of f ≢ WriteFault → (status_of f ≡ TooLong) ⊎ (status_of f ≡ NoMemory)
+  of_long c on long Usage h read write = absurd h.2
+  of_long c on long (Read which) h read write = absurd (read refl)
+  of_long c on long Write h read write = absurd (write refl)
+  of_long c on long Memory h read write = inr refl
+  of_long c on long (Long which) h read write = inl refl
+  of_long c on long (Card f) h read write = absurd (long_behind c on long (Card f) h)
+  of_long c on long (Source k at) h read write = absurd (long_behind c on long (Source k at) h)
+  of_long c on long (Limit k n) h read write = absurd (long_behind c on long (Limit k n) h)
+  of_long c on long (Qubits n s) h read write = absurd (long_behind c on long (Qubits n s) h)
+
+-- two commands that are the same have the same words
+same_words : (c d s t : List ℕ) → Some (Compile c s) ≡ Some (Compile d t) → (c ≡ d) × (s ≡ t)
+same_words c d s t e = ((cc), (cc))
+
+module _ (cards : CardsAreOne) (files : Option NamedFiles) where
+  pub done_exact : (command : Command) (old new : Option (List ℕ)) → Does files (Some command) old new → IsExact files (Some command) Done
+  done_exact (Compile card source) old new wrote = record {
+    long_card = λ d t c e on long.
+        let p = same_words card d source t e in
+        absurd (done_or_long cards files card source old new wrote c (subst (λ (x : List ℕ). HasCard files x c) (sym p.0) on) long);
+    refused = λ d t i g e on h.
+        let p = same_words card d source t e in
+        absurd (done_or_fault cards files card source old new wrote i
+        (subst (λ (x : List ℕ). HasInputs files card x i) (sym p.1) (subst (λ (x : List ℕ). HasInputs files x t i) (sym p.0) on)) g h);
+    accepted = λ d t i a p e on is limits fits. inl refl;
+    made = λ n k e. inl refl;
+  }
+  done_exact (Make n k) old new wrote = record {
+    long_card = λ d t c e on long. inl (absurd (cc));
+    refused = λ d t i g e on h. inl (absurd (cc));
+    accepted = λ d t i a p e on is limits fits. inl refl;
+    made = λ n k e. inl refl;
   }
 
-  of_bytes : (bytes : List ℕ) → IsOnShelf files name bytes → (f : Fault) → (found : List ℕ) × MayHold files name found × IsFaultOf found f → IsFaultOrWant bytes f
-  of_bytes bytes on f h = inr (subst (λ (l : List ℕ). IsFaultOf l f) (same_bytes files name bytes h.0 on h.1) h.2)
+  -- the status of a refusal is the one that the files deserve
+  refused_compile : (card source : List ℕ) (f : Fault) (status : Status) → status ≡ status_of f → MeansOfCompiling files card source f →
+      status ≢ ReadFault → status ≢ WriteFault → IsExact files (Some (Compile card source)) status
+  refused_compile card source f status is means read write = record {
+    long_card = λ d t c e on long.
+        let p = same_words card d source t e in
+        long_card c (subst (λ (x : List ℕ). HasCard files x c) (sym p.0) on) long;
+    refused = λ d t i g e on h. refused i (here d t i e on) g h;
+    accepted = λ d t i a p e on is limits fits. accepted i (here d t i e on) a p is limits fits;
+    made = λ n k e. inl (absurd (cc));
+  } where
+    here : (d t : List ℕ) (i : Inputs) → Some (Compile card source) ≡ Some (Compile d t) → HasInputs files d t i → HasInputs files card source i
+    here d t i e on =
+        let p = same_words card d source t e in
+        subst (λ (x : List ℕ). HasInputs files card x i) (sym p.1) (subst (λ (x : List ℕ). HasInputs files x t i) (sym p.0) on)
 
-  -- where no call fails, a fault is one of the file, or want of memory
-  of_file : (bytes : List ℕ) → IsOnShelf files name bytes → (f : Fault) → Means files name f → status_of f ≢ ReadFault → status_of f ≢ WriteFault → IsFaultOrWant bytes f
-  of_file bytes on Usage h read write = absurd (subst (λ (n : Option (List ℕ)). IsOnShelf files n bytes) h on)
-  of_file bytes on Read h read write = absurd (read refl)
-  of_file bytes on Write h read write = absurd (write refl)
-  of_file bytes on Memory h read write = inl refl
-  of_file bytes on Long h read write = of_bytes bytes on Long h
-  of_file bytes on (Source k at) h read write = of_bytes bytes on (Source k at) h
-  of_file bytes on (Limit k n) h read write = of_bytes bytes on (Limit k n) h
-  of_file bytes on (Qubits n s) h read write = of_bytes bytes on (Qubits n s) h
+    calm_read : status_of f ≢ ReadFault
+    calm_read e = read (is ∙ e)
 
-  -- the status of a refusal is the one that the file deserves
-  pub refused_exact : (f : Fault) (status : Status) → status ≡ status_of f → Means files name f → status ≢ ReadFault → status ≢ WriteFault → IsExact files name status
-  refused_exact f status is means read write = record { refused = refused; accepted = accepted } where
-    fault_is : (bytes : List ℕ) → IsOnShelf files name bytes → IsFaultOrWant bytes f
-    fault_is bytes on = of_file bytes on f means (λ e. read (is ∙ e)) (λ e. write (is ∙ e))
+    calm_write : status_of f ≢ WriteFault
+    calm_write e = write (is ∙ e)
 
-    refused : (bytes : List ℕ) (g : Fault) → IsOnShelf files name bytes → IsFaultOf bytes g → (status ≡ status_of g) ⊎ (status ≡ NoMemory)
-    refused bytes g on h =
-        elim (fault_is bytes on) [
-          | inl memory ↦ inr (is ∙ ap status_of memory)
-          | inr own ↦ inl (is ∙ ap status_of (fault_once bytes f g own h))
+    long_card : (c : CardInput) → HasCard files card c → IsLongCard c → (status ≡ TooLong) ⊎ (status ≡ NoMemory)
+    long_card c on long =
+        elim (of_long cards files card source c on long f means calm_read calm_write) [
+          | inl too_long ↦ inl (is ∙ too_long)
+          | inr memory ↦ inr (is ∙ memory)
         ]
 
-    accepted : (bytes : List ℕ) (source : Program) → IsOnShelf files name bytes → IsReadAs bytes source → IsWithinLimits source →
-        qubit_count source.statements ≤ storage_count tiny_architecture → (status ≡ Done) ⊎ (status ≡ NoMemory)
-    accepted bytes source on read limits fits =
-        elim (fault_is bytes on) [
+    refused : (i : Inputs) → HasInputs files card source i → (g : Fault) → IsFaultOf i g → (status ≡ status_of g) ⊎ (status ≡ NoMemory)
+    refused i on g h =
+        elim (of_files cards files card source i on (short_card cards i g h) f means calm_read calm_write) [
           | inl memory ↦ inr (is ∙ ap status_of memory)
-          | inr own ↦ absurd (fits_or_fault bytes source read limits fits f own)
+          | inr own ↦ inl (is ∙ ap status_of (fault_once cards i f g own h))
         ]
+
+    accepted : (i : Inputs) → HasInputs files card source i → (a : Architecture) (p : Program) → AreReadAs i a p → IsWithinLimits p →
+        qubit_count p.statements ≤ storage_count a → (status ≡ Done) ⊎ (status ≡ NoMemory)
+    accepted i on a p reading limits fits =
+        elim (of_files cards files card source i on reading.short.card f means calm_read calm_write) [
+          | inl memory ↦ inr (is ∙ ap status_of memory)
+          | inr own ↦ absurd (fits_or_fault cards i a p reading limits fits f own)
+        ]
+
+  refused_make : (n k : ℕ) (f : Fault) (status : Status) → status ≡ status_of f → (f ≡ Write) ⊎ (f ≡ Memory) → status ≢ WriteFault → IsExact files (Some (Make n k)) status
+  refused_make n k f status is (inl wrote) write = absurd (write (is ∙ ap status_of wrote))
+  refused_make n k f status is (inr memory) write = record {
+    long_card = λ d t c e on long. inr (is ∙ ap status_of memory);
+    refused = λ d t i g e on h. inr (is ∙ ap status_of memory);
+    accepted = λ d t i a p e on reading limits fits. inr (is ∙ ap status_of memory);
+    made = λ m l e. inr (is ∙ ap status_of memory);
+  }
+
+  pub refused_exact : (command : Command) (f : Fault) (status : Status) → status ≡ status_of f → Means files (Some command) f → status ≢ ReadFault → status ≢ WriteFault → IsExact files (Some command) status
+  refused_exact (Compile card source) f status is means read write = refused_compile card source f status is means read write
+  refused_exact (Make n k) f status is means read write = refused_make n k f status is means write
+
+  -- words that name no command deserve nothing but their own status
+  pub none_exact : (status : Status) → IsExact files None status
+  none_exact status = record {
+    long_card = λ d t c e on long. inl (absurd (cc));
+    refused = λ d t i g e on h. inl (absurd (cc));
+    accepted = λ d t i a p e on reading limits fits. inl (absurd (cc));
+    made = λ m l e. inl (absurd (cc));
+  }

@@ -1,101 +1,169 @@
--- A file has one fault at most, and a source that compiles has none.
+-- What a command is given has one fault at most, and none where it compiles.
 use Rattle.std.proofs.Common.{◌≡◌, ℕ, ◌<◌, ◌≤◌, List, length, refl, sym, ap, ◌∙◌, subst, arith}
-use Rattle.zac_arch.specs.Architecture.{storage_count}
-use Rattle.zac_arch.specs.Tiny.{tiny_architecture}
+use Rattle.zac_arch.specs.Architecture.{Architecture, storage_count}
+use Rattle.zac_archfile.specs.Faults.{IsFault}
+use Rattle.zac_archfile.specs.Texts.{IsCardText}
+use Rattle.zac_archfile.specs.declared.fault.CardFault.{CardFault}
 use Rattle.qasm_expand.specs.Expansion.{IsWithinLimits, PassesFirst}
 use Rattle.qasm_expand.specs.Items.{qubit_count}
 use Rattle.qasm_expand.specs.declared.fault.LimitKind.{LimitKind}
 use Rattle.qasm_expand.proofs.ProgramLemmas.{within_passes_none, passes_once}
 use Rattle.qasm_names.specs.Accepted.{Program}
-use Rattle.zac_flow.specs.Compiled.{IsReadAs, source_limit}
+use Rattle.zac_flow.specs.Compiled.{AreReadAs}
 use Rattle.zac_flow.specs.Faults.{IsFaultOf}
-use Rattle.zac_flow.specs.Source.{IsRefusedAt}
+use Rattle.zac_flow.specs.Inputs.{AreShort, IsShortCard, IsCardOf, IsRefusedCard, source_limit}
+use Rattle.zac_flow.specs.Source.{IsAccepted, IsRefusedAt}
+use Rattle.zac_flow.specs.declared.inputs.CardInput.{CardInput}
+use Rattle.zac_flow.specs.declared.inputs.CardInput.TheVariants.{Tiny, Standard, Text}
+use Rattle.zac_flow.specs.declared.inputs.Inputs.{Inputs}
 use Rattle.zac_flow.specs.declared.source_fault.Refusal.{Refusal}
 use Rattle.zac_flow.specs.declared.status.Fault.{Fault}
-use Rattle.zac_flow.specs.declared.status.Fault.TheVariants.{Usage, Read, Long, Source, Limit, Qubits, Write, Memory}
+use Rattle.zac_flow.specs.declared.status.Fault.TheVariants.{Usage, Read, Long, Card, Source, Limit, Qubits, Write, Memory}
+use Rattle.zac_flow.specs.declared.status.InputFile.TheVariants as file
 use Rattle.zac_flow.proofs.Reading.{accepted_once, accepted_or_refused, refused_once}
 
-module _ (bytes : List ℕ) where
-  long_only : source_limit < length bytes → (g : Fault) → IsFaultOf bytes g → Long ≡ g
-  long_only long Long h = refl
-  long_only long (Source k at) h = absurd (omega (arith, long, h.0))
-  long_only long (Limit k n) h = absurd (omega (arith, long, h.1.short))
-  long_only long (Qubits n s) h = absurd (omega (arith, long, h.1.short))
-  long_only long Usage h = absurd h
-  long_only long Read h = absurd h
-  long_only long Write h = absurd h
-  long_only long Memory h = absurd h
+-- what is known of the texts of cards
+pub record CardsAreOne : Type 0 where
+  pub card : (bytes : List ℕ) (a b : Architecture) → IsCardText bytes a → IsCardText bytes b → a ≡ b
+  pub fault : (bytes : List ℕ) (f g : CardFault) → IsFault bytes f → IsFault bytes g → f ≡ g
+  pub not_both : (bytes : List ℕ) (a : Architecture) (f : CardFault) → IsCardText bytes a → IsFault bytes f → ⊥
 
-  same_source : (k l : Refusal) (a b : ℕ) → (k ≡ l) × (a ≡ b) → Source k a ≡ Source l b
-  same_source k l a b e = λ i. Source (e.0 i) (e.1 i)
+module _ (cards : CardsAreOne) where
+  card_once : (c : CardInput) (a b : Architecture) → IsCardOf c a → IsCardOf c b → a ≡ b
+  card_once Tiny a b left right = left ∙ sym right
+  card_once Standard a b left right = left ∙ sym right
+  card_once (Text bytes) a b left right = cards.card bytes a b left right
 
-  refused_only : length bytes ≤ source_limit → (k : Refusal) (at : ℕ) → IsRefusedAt bytes k at → (g : Fault) → IsFaultOf bytes g → Source k at ≡ g
-  refused_only short k at refused Long h = absurd (omega (arith, short, h))
-  refused_only short k at refused (Source l other) h = same_source k l at other (refused_once bytes k l at other refused h.1)
-  refused_only short k at refused (Limit l n) h = absurd (accepted_or_refused bytes h.0 h.1.accepted k at refused)
-  refused_only short k at refused (Qubits n s) h = absurd (accepted_or_refused bytes h.0 h.1.accepted k at refused)
-  refused_only short k at refused Usage h = absurd h
-  refused_only short k at refused Read h = absurd h
-  refused_only short k at refused Write h = absurd h
-  refused_only short k at refused Memory h = absurd h
+  card_fault_once : (c : CardInput) (f g : CardFault) → IsRefusedCard c f → IsRefusedCard c g → f ≡ g
+  card_fault_once Tiny f g left right = absurd left
+  card_fault_once Standard f g left right = absurd left
+  card_fault_once (Text bytes) f g left right = cards.fault bytes f g left right
 
-  same_program : (p q : Program) → IsReadAs bytes p → IsReadAs bytes q → p ≡ q
-  same_program p q left right = accepted_once bytes p q left.accepted right.accepted
+  card_or_fault : (c : CardInput) (a : Architecture) (f : CardFault) → IsCardOf c a → IsRefusedCard c f → ⊥
+  card_or_fault Tiny a f is refused = refused
+  card_or_fault Standard a f is refused = refused
+  card_or_fault (Text bytes) a f is refused = cards.not_both bytes a f is refused
 
-  -- one reading passes no limit, and another one does
-  both : (p q : Program) (k : LimitKind) (n : ℕ) → IsReadAs bytes p → IsReadAs bytes q → IsWithinLimits p → PassesFirst q k n → ⊥
-  both p q k n left right within passes =
-      within_passes_none q k n (subst IsWithinLimits (same_program p q left right) within) passes
+  module _ (i : Inputs) where
+    same_program : (p q : Program) → IsAccepted i.source p → IsAccepted i.source q → p ≡ q
+    same_program p q left right = accepted_once i.source p q left right
 
-  same_limit : (k l : LimitKind) (m n : ℕ) → (k ≡ l) × (m ≡ n) → Limit k m ≡ Limit l n
-  same_limit k l m n e = λ i. Limit (e.0 i) (e.1 i)
+    same_count : (p q : Program) → IsAccepted i.source p → IsAccepted i.source q → qubit_count p.statements ≡ qubit_count q.statements
+    same_count p q left right = ap (λ (x : Program). qubit_count x.statements) (same_program p q left right)
 
-  limit_only : (p : Program) (k : LimitKind) (n : ℕ) → IsReadAs bytes p → PassesFirst p k n → (g : Fault) → IsFaultOf bytes g → Limit k n ≡ g
-  limit_only p k n is passes Long h = absurd (omega (arith, is.short, h))
-  limit_only p k n is passes (Source l at) h = absurd (accepted_or_refused bytes p is.accepted l at h.1)
-  limit_only p k n is passes (Limit l m) h =
-      same_limit k l n m (passes_once p k l n m passes (subst (λ (x : Program). PassesFirst x l m) (same_program h.0 p h.1 is) h.2))
-  limit_only p k n is passes (Qubits m s) h = absurd (both h.0 p k n h.1 is h.2 passes)
-  limit_only p k n is passes Usage h = absurd h
-  limit_only p k n is passes Read h = absurd h
-  limit_only p k n is passes Write h = absurd h
-  limit_only p k n is passes Memory h = absurd h
+    -- a reading that passes no limit, and one that does
+    both : (p q : Program) (k : LimitKind) (n : ℕ) → IsAccepted i.source p → IsAccepted i.source q → IsWithinLimits p → PassesFirst q k n → ⊥
+    both p q k n left right within passes =
+        within_passes_none q k n (subst IsWithinLimits (same_program p q left right) within) passes
 
-  same_count : (p q : Program) → IsReadAs bytes p → IsReadAs bytes q → qubit_count p.statements ≡ qubit_count q.statements
-  same_count p q left right = ap (λ (x : Program). qubit_count x.statements) (same_program p q left right)
+    long_only : IsShortCard i.card → source_limit < length i.source → (g : Fault) → IsFaultOf i g → Long file.Source ≡ g
+    long_only card long (Long file.Source) h = refl
+    long_only card long (Long file.Card) h = absurd h
+    long_only card long (Card f) h = absurd (omega (arith, long, h.0.source))
+    long_only card long (Source k at) h = absurd (omega (arith, long, h.0.source))
+    long_only card long (Limit k n) h = absurd (omega (arith, long, h.2.short.source))
+    long_only card long (Qubits n s) h = absurd (omega (arith, long, h.2.short.source))
+    long_only card long Usage h = absurd h
+    long_only card long (Read which) h = absurd h
+    long_only card long Write h = absurd h
+    long_only card long Memory h = absurd h
 
-  same_qubits : (m n s t : ℕ) → m ≡ n → s ≡ t → Qubits m s ≡ Qubits n t
-  same_qubits m n s t e f = λ i. Qubits (e i) (f i)
+    card_only : AreShort i → (f : CardFault) → IsRefusedCard i.card f → (g : Fault) → IsFaultOf i g → Card f ≡ g
+    card_only short f refused (Long file.Source) h = absurd (omega (arith, short.source, h.1))
+    card_only short f refused (Long file.Card) h = absurd h
+    card_only short f refused (Card g) h = ap (λ (x : CardFault). Card x) (card_fault_once i.card f g refused h.1)
+    card_only short f refused (Source k at) h = absurd (card_or_fault i.card h.1.0 f h.1.1 refused)
+    card_only short f refused (Limit k n) h = absurd (card_or_fault i.card h.0 f h.2.card refused)
+    card_only short f refused (Qubits n s) h = absurd (card_or_fault i.card h.0 f h.2.card refused)
+    card_only short f refused Usage h = absurd h
+    card_only short f refused (Read which) h = absurd h
+    card_only short f refused Write h = absurd h
+    card_only short f refused Memory h = absurd h
 
-  qubits_only : (n s : ℕ) → IsFaultOf bytes (Qubits n s) → (g : Fault) → IsFaultOf bytes g → Qubits n s ≡ g
-  qubits_only n s many Long h = absurd (omega (arith, many.1.short, h))
-  qubits_only n s many (Source l at) h = absurd (accepted_or_refused bytes many.0 many.1.accepted l at h.1)
-  qubits_only n s many (Limit l m) h = absurd (both many.0 h.0 l m many.1 h.1 many.2 h.2)
-  qubits_only n s many (Qubits m t) h =
-      same_qubits n m s t (many.3 ∙ same_count many.0 h.0 many.1 h.1 ∙ sym h.3) (many.4 ∙ sym h.4)
-  qubits_only n s many Usage h = absurd h
-  qubits_only n s many Read h = absurd h
-  qubits_only n s many Write h = absurd h
-  qubits_only n s many Memory h = absurd h
+    same_source : (k l : Refusal) (a b : ℕ) → (k ≡ l) × (a ≡ b) → Source k a ≡ Source l b
+    same_source k l a b e = λ j. Source (e.0 j) (e.1 j)
 
-  -- each fault of a file is the same
-  pub fault_once : (f g : Fault) → IsFaultOf bytes f → IsFaultOf bytes g → f ≡ g
-  fault_once Long g left right = long_only left g right
-  fault_once (Source k at) g left right = refused_only left.0 k at left.1 g right
-  fault_once (Limit k n) g left right = limit_only left.0 k n left.1 left.2 g right
-  fault_once (Qubits n s) g left right = qubits_only n s left g right
-  fault_once Usage g left right = absurd left
-  fault_once Read g left right = absurd left
-  fault_once Write g left right = absurd left
-  fault_once Memory g left right = absurd left
+    refused_only : AreShort i → (a : Architecture) → IsCardOf i.card a → (k : Refusal) (at : ℕ) → IsRefusedAt i.source k at → (g : Fault) → IsFaultOf i g → Source k at ≡ g
+    refused_only short a is k at refused (Long file.Source) h = absurd (omega (arith, short.source, h.1))
+    refused_only short a is k at refused (Long file.Card) h = absurd h
+    refused_only short a is k at refused (Card g) h = absurd (card_or_fault i.card a g is h.1)
+    refused_only short a is k at refused (Source l other) h = same_source k l at other (refused_once i.source k l at other refused h.2)
+    refused_only short a is k at refused (Limit l n) h = absurd (accepted_or_refused i.source h.1 h.2.accepted k at refused)
+    refused_only short a is k at refused (Qubits n s) h = absurd (accepted_or_refused i.source h.1 h.2.accepted k at refused)
+    refused_only short a is k at refused Usage h = absurd h
+    refused_only short a is k at refused (Read which) h = absurd h
+    refused_only short a is k at refused Write h = absurd h
+    refused_only short a is k at refused Memory h = absurd h
 
-  -- a source that passes no limit and fits the storage has no fault
-  pub fits_or_fault : (p : Program) → IsReadAs bytes p → IsWithinLimits p → qubit_count p.statements ≤ storage_count tiny_architecture → (g : Fault) → IsFaultOf bytes g → ⊥
-  fits_or_fault p is within fits Long h = omega (arith, is.short, h)
-  fits_or_fault p is within fits (Source l at) h = accepted_or_refused bytes p is.accepted l at h.1
-  fits_or_fault p is within fits (Limit l m) h = both p h.0 l m is h.1 within h.2
-  fits_or_fault p is within fits (Qubits m t) h = omega (arith, same_count h.0 p h.1 is, fits, h.3, h.4, h.5)
-  fits_or_fault p is within fits Usage h = h
-  fits_or_fault p is within fits Read h = h
-  fits_or_fault p is within fits Write h = h
-  fits_or_fault p is within fits Memory h = h
+    same_limit : (k l : LimitKind) (m n : ℕ) → (k ≡ l) × (m ≡ n) → Limit k m ≡ Limit l n
+    same_limit k l m n e = λ j. Limit (e.0 j) (e.1 j)
+
+    limit_only : (a : Architecture) (p : Program) (k : LimitKind) (n : ℕ) → AreReadAs i a p → PassesFirst p k n → (g : Fault) → IsFaultOf i g → Limit k n ≡ g
+    limit_only a p k n is passes (Long file.Source) h = absurd (omega (arith, is.short.source, h.1))
+    limit_only a p k n is passes (Long file.Card) h = absurd h
+    limit_only a p k n is passes (Card g) h = absurd (card_or_fault i.card a g is.card h.1)
+    limit_only a p k n is passes (Source l at) h = absurd (accepted_or_refused i.source p is.accepted l at h.2)
+    limit_only a p k n is passes (Limit l m) h =
+        same_limit k l n m (passes_once p k l n m passes (subst (λ (x : Program). PassesFirst x l m) (same_program h.1 p h.2.accepted is.accepted) h.3))
+    limit_only a p k n is passes (Qubits m s) h = absurd (both h.1 p k n h.2.accepted is.accepted h.3 passes)
+    limit_only a p k n is passes Usage h = absurd h
+    limit_only a p k n is passes (Read which) h = absurd h
+    limit_only a p k n is passes Write h = absurd h
+    limit_only a p k n is passes Memory h = absurd h
+
+    same_qubits : (m n s t : ℕ) → m ≡ n → s ≡ t → Qubits m s ≡ Qubits n t
+    same_qubits m n s t e f = λ j. Qubits (e j) (f j)
+
+    qubits_only : (n s : ℕ) → IsFaultOf i (Qubits n s) → (g : Fault) → IsFaultOf i g → Qubits n s ≡ g
+    qubits_only n s many (Long file.Source) h = absurd (omega (arith, many.2.short.source, h.1))
+    qubits_only n s many (Long file.Card) h = absurd h
+    qubits_only n s many (Card g) h = absurd (card_or_fault i.card many.0 g many.2.card h.1)
+    qubits_only n s many (Source l at) h = absurd (accepted_or_refused i.source many.1 many.2.accepted l at h.2)
+    qubits_only n s many (Limit l m) h = absurd (both many.1 h.1 l m many.2.accepted h.2.accepted many.3 h.3)
+    qubits_only n s many (Qubits m t) h =
+        same_qubits n m s t (many.4 ∙ same_count many.1 h.1 many.2.accepted h.2.accepted ∙ sym h.4)
+        (many.5 ∙ ap storage_count (card_once i.card many.0 h.0 many.2.card h.2.card) ∙ sym h.5)
+    qubits_only n s many Usage h = absurd h
+    qubits_only n s many (Read which) h = absurd h
+    qubits_only n s many Write h = absurd h
+    qubits_only n s many Memory h = absurd h
+
+    -- each fault of it is the same
+    pub fault_once : (f g : Fault) → IsFaultOf i f → IsFaultOf i g → f ≡ g
+    fault_once (Long file.Source) g left right = long_only left.0 left.1 g right
+    fault_once (Long file.Card) g left right = absurd left
+    fault_once (Card f) g left right = card_only left.0 f left.1 g right
+    fault_once (Source k at) g left right = refused_only left.0 left.1.0 left.1.1 k at left.2 g right
+    fault_once (Limit k n) g left right = limit_only left.0 left.1 k n left.2 left.3 g right
+    fault_once (Qubits n s) g left right = qubits_only n s left g right
+    fault_once Usage g left right = absurd left
+    fault_once (Read which) g left right = absurd left
+    fault_once Write g left right = absurd left
+    fault_once Memory g left right = absurd left
+
+    -- a card and a source that are read, pass no limit and fit the storage have no fault
+    pub fits_or_fault : (a : Architecture) (p : Program) → AreReadAs i a p → IsWithinLimits p → qubit_count p.statements ≤ storage_count a → (g : Fault) → IsFaultOf i g → ⊥
+    fits_or_fault a p is within fits (Long file.Source) h = omega (arith, is.short.source, h.1)
+    fits_or_fault a p is within fits (Long file.Card) h = h
+    fits_or_fault a p is within fits (Card g) h = card_or_fault i.card a g is.card h.1
+    fits_or_fault a p is within fits (Source l at) h = accepted_or_refused i.source p is.accepted l at h.2
+    fits_or_fault a p is within fits (Limit l m) h = both p h.1 l m is.accepted h.2.accepted within h.3
+    fits_or_fault a p is within fits (Qubits m t) h =
+        omega (arith, same_count h.1 p h.2.accepted is.accepted, ap storage_count (card_once i.card h.0 a h.2.card is.card), fits, h.4, h.5, h.6)
+    fits_or_fault a p is within fits Usage h = h
+    fits_or_fault a p is within fits (Read which) h = h
+    fits_or_fault a p is within fits Write h = h
+    fits_or_fault a p is within fits Memory h = h
+
+    -- each fault of it comes behind a card within its limit
+    pub short_card : (g : Fault) → IsFaultOf i g → IsShortCard i.card
+    short_card (Long file.Source) h = h.0
+    short_card (Long file.Card) h = absurd h
+    short_card (Card g) h = h.0.card
+    short_card (Source l at) h = h.0.card
+    short_card (Limit l m) h = h.2.short.card
+    short_card (Qubits m t) h = h.2.short.card
+    short_card Usage h = absurd h
+    short_card (Read which) h = absurd h
+    short_card Write h = absurd h
+    short_card Memory h = absurd h

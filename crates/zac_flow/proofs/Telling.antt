@@ -4,7 +4,7 @@ use Rattle.zac_io.specs.Outside.{Appends, AppendsPrefix}
 use Rattle.zac_io.proofs.Growth.{Appends-append, AppendsPrefix-append, AppendsPrefix-after}
 use Rattle.zair_text.specs.Lines.{joined}
 use Rattle.zac_flow.specs.Parts.{part_bytes}
-use Rattle.zac_flow.specs.declared.refusal.Part.{Part}
+use Rattle.zac_flow.specs.declared.part.Part.{Part}
 
 module _ (parts : List Part) (k : ℕ) (d : Part) (less : k < length parts) (said : List ℕ) (is : said ++ joined (map part_bytes (drop k parts)) ≡ joined (map part_bytes parts)) where
   next : drop k parts ≡ get_or parts k d ∷ drop (k + 1) parts

@@ -1,11 +1,32 @@
--- The names of the kinds of refusals and of the limits, as they are told.
-use Rattle.std.specs.Prelude.{ℕ, List, codes}
+-- The names of files, of the kinds of refusals and of the limits, as they are told.
+use Rattle.std.specs.Prelude.{ℕ, List, [], ◌∷◌, codes, decimal}
+use Rattle.zac_archfile.specs.Fields.{name_of as field_name}
+use Rattle.zac_archfile.specs.declared.fault.CardFault.{CardFault}
+use Rattle.zac_archfile.specs.declared.fault.CardFault.TheVariants as card
+use Rattle.zair_text.specs.Lines.{joined}
 use Rattle.qasm_expand.specs.declared.fault.LimitKind.{LimitKind}
 use Rattle.qasm_expand.specs.declared.fault.LimitKind.TheVariants as limit
 use Rattle.qasm_names.specs.declared.fault.ScopeKind.{ScopeKind}
 use Rattle.qasm_names.specs.declared.fault.ScopeKind.TheVariants as scope
 use Rattle.zac_flow.specs.declared.source_fault.Refusal.{Refusal}
+use Rattle.zac_flow.specs.declared.status.InputFile.{InputFile}
+use Rattle.zac_flow.specs.declared.status.InputFile.TheVariants as file
 use Rattle.zac_flow.specs.declared.source_fault.Refusal.TheVariants.{Lex, Syntax, Scope}
+
+-- The name of each file that a command reads: `card` or `source`.
+abbrev pub file_name : InputFile → List ℕ
+file_name file.Card = codes "card"
+file_name file.Source = codes "source"
+
+-- The text of a card's refusal: its kind, and the name of the field or the number of the rule.
+abbrev pub card_fault_text : CardFault → List ℕ
+card_fault_text card.NotJson = codes "NotJson"
+card_fault_text (card.Missing field) = joined (codes "Missing " ∷ field_name field ∷ [])
+card_fault_text card.Unknown = codes "Unknown"
+card_fault_text (card.NotWhole field) = joined (codes "NotWhole " ∷ field_name field ∷ [])
+card_fault_text (card.Range field) = joined (codes "Range " ∷ field_name field ∷ [])
+card_fault_text (card.Invalid rule) = joined (codes "Invalid " ∷ decimal rule ∷ [])
+card_fault_text card.Memory = codes "Memory"
 
 -- The name of each kind of a statement's refusal, from `Version` to `AfterRead`.
 abbrev pub scope_name : ScopeKind → List ℕ

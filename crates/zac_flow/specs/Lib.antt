@@ -1,7 +1,11 @@
 pub mod Kinds
 pub mod Source
+pub mod Refusals
 pub mod Words
+pub mod Requests
+pub mod Inputs
 pub mod Compiled
+pub mod Generator
 pub mod Parts
 pub mod Faults
 pub mod Answers

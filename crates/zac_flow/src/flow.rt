@@ -1,15 +1,20 @@
 //! The top call.
 
-ghost use Rattle.std.specs.Prelude.{◌≡◌, ◌≢◌, Err, IfErr, OnOk, map, string_bytes, MatchOption, Some};
-ghost use Rattle.zac_io.specs.Outside.{Rose, RoseWhere, is_missing};
-ghost use Rattle.zac_flow.specs.Answers.{WritesProgram, IsTold, IsRefusedBy, IsExact, RisesAt};
-ghost use Rattle.zac_flow.specs.Faults.{status_of, fault_line, Means, Leaves};
-ghost use Rattle.zac_flow.specs.Words.{named_file};
+ghost use Rattle.std.specs.Prelude.{◌≡◌, ◌≢◌, IfErr, IfSome, OnOk, Option, map, string_bytes, Some};
+ghost use Rattle.std.specs.Option.{option_map};
+ghost use Rattle.zac_io.specs.Outside.{Rose};
+ghost use Rattle.zac_flow.specs.Answers.{Does, IsTold, IsRefusedBy, IsExact, RisesAt, StraysRise};
+ghost use Rattle.zac_flow.specs.Faults.{status_of, outcome, fault_line, Means, Leaves};
+ghost use Rattle.zac_flow.specs.Requests.{named, IsInRange};
+ghost use Rattle.zac_flow.specs.Words.{Command, Name, Compile, Make};
 
-use crate::stages::{program_from, source_from, write_text};
+use crate::inputs::inputs_from;
+use crate::make::write_made;
+use crate::stages::{program_from, write_text};
 use crate::status::{Fault, Status};
-use crate::words::file_name;
+use crate::words::{Request, read_words};
 use std::alloc::Global;
+use zac_archfile::card_or_one_fault;
 use zac_io::{Shelf, Sink};
 
 /// Tells the refusal, and answers its status.
@@ -21,37 +26,94 @@ fn refuse<E: Sink>(fault: Fault, err: &mut E) -> Status
     fault.status()
 }
 
-/// Compiles the source of this name for the tiny card, and writes its program.
-fn compile_file<S: Shelf, K: Sink>(
+/// Compiles a source for a card, and writes its program.
+fn compile_files<S: Shelf, K: Sink>(
     alloc: Global,
-    name: &str,
+    card: &str,
+    source: &str,
     shelf: &mut S,
     out: &mut K,
 ) -> Result<(), Fault>
-    ensures done { OnOk result (WritesProgram (S.files shelf.old) (Some name.now) (K.written out.old) (K.written out.new)) }
-    ensures means { IfErr result (Means (S.files shelf.old) (Some name.now)) }
-    ensures leaves { IfErr result (Leaves (S.files shelf.old) (Some name.now) (K.written out.old) (K.written out.new)) }
-    ensures reads { RisesAt (Err Fault.Read) result (S.faults shelf.old) (S.faults shelf.new) }
-    ensures writes { RisesAt (Err Fault.Write) result (K.faults out.old) (K.faults out.new) }
-    ensures stray { RoseWhere (is_missing (S.files shelf.old) name.now) (S.strays shelf.old) (S.strays shelf.new) }
+    ensures done { OnOk result (Does (S.files shelf.old) (Some (Compile card.now source.now)) (K.written out.old) (K.written out.new)) }
+    ensures means { IfErr result (Means (S.files shelf.old) (Some (Compile card.now source.now))) }
+    ensures leaves { IfErr result (Leaves (S.files shelf.old) (Some (Compile card.now source.now)) (K.written out.old) (K.written out.new)) }
+    ensures reads { RisesAt Status.ReadFault (outcome result) (S.faults shelf.old) (S.faults shelf.new) }
+    ensures writes { RisesAt Status.WriteFault (outcome result) (K.faults out.old) (K.faults out.new) }
+    ensures strays { StraysRise (S.files shelf.old) (Some (Compile card.now source.now)) (S.strays shelf.old) (S.strays shelf.new) }
     ensures same_files { S.files shelf.new ≡ S.files shelf.old }
 {
-    let source = source_from(alloc, shelf, name)?;
-    let program = program_from(alloc, source.as_slice())?;
+    let inputs = inputs_from(alloc, shelf, card, source)?;
+    let program = program_from(alloc, &inputs)?;
     write_text(alloc, &program, out)
 }
 
-/// Does what the words say. The words are those after the program's name: `compile @tiny FILE`.
+/// Does what is asked for.
+fn carry_out<S: Shelf, K: Sink>(
+    alloc: Global,
+    request: Request<'_>,
+    shelf: &mut S,
+    out: &mut K,
+) -> Result<(), Fault>
+    requires { IsInRange request }
+    ensures done { OnOk result (Does (S.files shelf.old) (Some (named request.entry)) (K.written out.old) (K.written out.new)) }
+    ensures means { IfErr result (Means (S.files shelf.old) (Some (named request.entry))) }
+    ensures leaves { IfErr result (Leaves (S.files shelf.old) (Some (named request.entry)) (K.written out.old) (K.written out.new)) }
+    ensures reads { RisesAt Status.ReadFault (outcome result) (S.faults shelf.old) (S.faults shelf.new) }
+    ensures writes { RisesAt Status.WriteFault (outcome result) (K.faults out.old) (K.faults out.new) }
+    ensures strays { StraysRise (S.files shelf.old) (Some (named request.entry)) (S.strays shelf.old) (S.strays shelf.new) }
+    ensures same_files { S.files shelf.new ≡ S.files shelf.old }
+{
+    match request {
+        Request::Compile { card, source } => compile_files(alloc, card, source, shelf, out),
+        Request::Make { qubits, pairs } => write_made(alloc, qubits, pairs, out),
+    }
+}
+
+/// Does what is asked for, if anything is, and answers how it ended.
+fn answer<S: Shelf, K: Sink, E: Sink>(
+    alloc: Global,
+    request: Option<Request<'_>>,
+    shelf: &mut S,
+    out: &mut K,
+    err: &mut E,
+) -> Status
+    requires { IfSome request IsInRange }
+    ensures done { result ≡ Status.Done → Does (S.files shelf.old) (option_map named request.entry) (K.written out.old) (K.written out.new) }
+    ensures quiet { result ≡ Status.Done → err.new ≡ err.old }
+    ensures refused { result ≢ Status.Done → IsRefusedBy (S.files shelf.old) (option_map named request.entry) result
+        (K.written out.old) (K.written out.new) (E.written err.old) (E.written err.new) (E.faults err.old) (E.faults err.new) }
+    ensures exact { ¬ Rose (S.faults shelf.old) (S.faults shelf.new) → ¬ Rose (K.faults out.old) (K.faults out.new)
+        → IsExact (S.files shelf.old) (option_map named request.entry) result }
+    ensures reads { RisesAt Status.ReadFault result (S.faults shelf.old) (S.faults shelf.new) }
+    ensures writes { RisesAt Status.WriteFault result (K.faults out.old) (K.faults out.new) }
+    ensures strays { StraysRise (S.files shelf.old) (option_map named request.entry) (S.strays shelf.old) (S.strays shelf.new) }
+    ensures same_files { S.files shelf.new ≡ S.files shelf.old }
+{
+    card_or_one_fault();
+    match request {
+        None => refuse(Fault::Usage, err),
+        Some(request) => match carry_out(alloc, request, shelf, out) {
+            Ok(()) => Status::Done,
+            Err(fault) => refuse(fault, err),
+        },
+    }
+}
+
+/// Does what the words say. The words are those after the program's name: `compile CARD FILE`, where CARD is `@tiny`, `@standard`
+/// or a file's name, or `make N K`, N from 2 to 4,096 and K to 50,000 in decimal digits.
 ///
-/// `Done`: `out` gained the text of one program that performs the file's source on the tiny card, in every order that
-/// its times allow, and of no other writable list of instructions. `Usage` comes exactly where the words are no
-/// command. `ReadFault` comes only where a call on the shelf failed, `TooLong` exactly where the file has more than
-/// 4,194,304 bytes and no call failed, `SourceRefused` exactly where the file's source is refused, with the kind and
-/// the offset of the refusal in the line on `err`, `Limit` exactly where an accepted source passes a limit of the
-/// expansion, with the first such limit and its count in the line, `TooManyQubits` exactly where an accepted source
-/// within the limits has more qubits than storage traps, `WriteFault` only where a call on `out` failed, behind a
+/// `Done`: of `compile`, `out` gained the text of one program that performs the source on the card, in every order that
+/// its times allow, and of no other writable list of instructions; of `make`, the source that the generator makes.
+/// `Usage` comes exactly where the words are no command. `ReadFault` comes only where a call on the shelf failed, `TooLong`
+/// exactly where the card has more than 65,536 bytes, or the source more than 4,194,304 behind a card that has not, and no call failed before;
+/// `CardRefused` exactly where the card's bytes are no card, with the first cause in the line on `err`; `SourceRefused` exactly where behind
+/// a card the source is refused, with the kind and
+/// the offset of the refusal in the line; `Limit` exactly where an accepted source passes a limit of the
+/// expansion, with the first such limit and its count; `TooManyQubits` exactly where an accepted source
+/// within the limits has more qubits than the card has storage traps; `WriteFault` only where a call on `out` failed, behind a
 /// prefix of the text. Want of memory may come always, behind whole lines. Every other refusal leaves `out` as it
-/// was. A refusal's line goes to `err`, whose failures change no status. The shelf is asked for the named file alone.
+/// was. A refusal's line goes to `err`, whose failures change no status. The shelf is asked for the named files alone, in the order of the
+/// words, and each is read whole before anything else is judged.
 ///
 /// A source is accepted where its tokens fall into statements, the first of them the version, and none is refused
 /// behind those before it. Tokens are judged first, and then each statement in turn: its syntax, and then its names,
@@ -63,29 +125,24 @@ pub fn run<S: Shelf, K: Sink, E: Sink>(
     out: &mut K,
     err: &mut E,
 ) -> Status
-    // Where it is done, it wrote the program, and told nothing.
-    ensures done { result ≡ Status.Done → WritesProgram (S.files shelf.old) (named_file (map (λ word. string_bytes word) words.now))
-        (K.written out.old) (K.written out.new) }
+    // Where it is done, the command did its work, and told nothing.
+    ensures done { (command : Option Command) → Name (map (λ word. string_bytes word) words.now) command → result ≡ Status.Done
+        → Does (S.files shelf.old) command (K.written out.old) (K.written out.new) }
     ensures quiet { result ≡ Status.Done → err.new ≡ err.old }
     // Else one fault says why, what it left in out, and what was told.
-    ensures refused { result ≢ Status.Done → IsRefusedBy (S.files shelf.old) (named_file (map (λ word. string_bytes word) words.now)) result
+    ensures refused { (command : Option Command) → Name (map (λ word. string_bytes word) words.now) command → result ≢ Status.Done
+        → IsRefusedBy (S.files shelf.old) command result
         (K.written out.old) (K.written out.new) (E.written err.old) (E.written err.new) (E.faults err.old) (E.faults err.new) }
-    // Where no call fails, each file gets the status that it deserves.
-    ensures exact { ¬ Rose (S.faults shelf.old) (S.faults shelf.new) → ¬ Rose (K.faults out.old) (K.faults out.new)
-        → IsExact (S.files shelf.old) (named_file (map (λ word. string_bytes word) words.now)) result }
+    // Where no call fails, the files get the status that they deserve.
+    ensures exact { (command : Option Command) → Name (map (λ word. string_bytes word) words.now) command
+        → ¬ Rose (S.faults shelf.old) (S.faults shelf.new) → ¬ Rose (K.faults out.old) (K.faults out.new)
+        → IsExact (S.files shelf.old) command result }
     // Failed calls.
     ensures reads { RisesAt Status.ReadFault result (S.faults shelf.old) (S.faults shelf.new) }
     ensures writes { RisesAt Status.WriteFault result (K.faults out.old) (K.faults out.new) }
-    ensures strays { MatchOption (named_file (map (λ word. string_bytes word) words.now))
-        (S.strays shelf.new ≡ S.strays shelf.old)
-        (λ name. RoseWhere (is_missing (S.files shelf.old) name) (S.strays shelf.old) (S.strays shelf.new)) }
+    ensures strays { (command : Option Command) → Name (map (λ word. string_bytes word) words.now) command
+        → StraysRise (S.files shelf.old) command (S.strays shelf.old) (S.strays shelf.new) }
     ensures same_files { S.files shelf.new ≡ S.files shelf.old }
 {
-    match file_name(words) {
-        None => refuse(Fault::Usage, err),
-        Some(name) => match compile_file(alloc, name, shelf, out) {
-            Ok(()) => Status::Done,
-            Err(fault) => refuse(fault, err),
-        },
-    }
+    answer(alloc, read_words(words), shelf, out, err)
 }

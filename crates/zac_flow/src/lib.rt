@@ -2,7 +2,10 @@
 #![tactic(auto)]
 
 mod flow;
+mod inputs;
 pub mod laws;
+mod make;
+mod part;
 mod refusal;
 mod source;
 mod source_fault;
@@ -11,4 +14,5 @@ mod status;
 mod words;
 
 pub use flow::run;
+pub use make::make_text;
 pub use status::Status;

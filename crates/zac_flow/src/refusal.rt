@@ -1,24 +1,17 @@
 //! The line of a refusal.
 
-ghost use Rattle.std.specs.Prelude.{map};
+ghost use Rattle.std.specs.Prelude.{◌++◌, codes, map};
 ghost use Rattle.zac_io.specs.Outside.{Writes, HasCause};
 ghost use Rattle.zair_text.specs.Lines.{joined};
 ghost use Rattle.zac_flow.specs.Faults.{fault_line};
 ghost use Rattle.zac_flow.specs.Parts.{part_bytes};
 
+use crate::part::Part;
 use crate::source_fault::limit_name;
 use crate::status::Fault;
 use itoa::Buffer;
+use zac_archfile::CardFault;
 use zac_io::{Failed, Sink};
-
-/// A part of a line.
-#[derive(Clone, Copy, Drop)]
-enum Part {
-    /// A text as it is.
-    Text(&'static str),
-    /// A number in decimal digits.
-    Number(u64),
-}
 
 impl Fault {
     /// Writes the line of the fault. It takes no memory.
@@ -27,9 +20,28 @@ impl Fault {
         ensures cause { HasCause result (E.faults err.old) (E.faults err.new) }
     {
         match *self {
-            Fault::Usage => err.write(b"usage: compile CARD QASM\n"),
-            Fault::Read => err.write(b"read fault: source\n"),
-            Fault::Long => err.write(b"too long: source\n"),
+            Fault::Usage => err.write(b"usage: compile CARD QASM | make N K\n"),
+            Fault::Read { file } => {
+                tell_parts(
+                    &[
+                        Part::Text("read fault: "),
+                        Part::Text(file.name()),
+                        Part::Text("\n"),
+                    ],
+                    err,
+                )
+            }
+            Fault::Long { file } => {
+                tell_parts(
+                    &[
+                        Part::Text("too long: "),
+                        Part::Text(file.name()),
+                        Part::Text("\n"),
+                    ],
+                    err,
+                )
+            }
+            Fault::Card { fault } => tell_card_fault(fault, err),
             Fault::Source { kind, at } => {
                 tell_parts(
                     &[
@@ -70,6 +82,41 @@ impl Fault {
             Fault::Memory => err.write(b"out of memory\n"),
         }
     }
+}
+
+/// Writes the line of a card's refusal.
+fn tell_card_fault<E: Sink>(fault: CardFault, err: &mut E) -> Result<(), Failed>
+    ensures line { Writes (E.written err.old) (E.written err.new) (fault_line (Fault.Card fault)) result }
+    ensures cause { HasCause result (E.faults err.old) (E.faults err.new) }
+{
+    match fault {
+        CardFault::NotJson => tell_card_parts("NotJson", Part::Text(""), err),
+        CardFault::Missing(field) => tell_card_parts("Missing ", Part::Text(field.name()), err),
+        CardFault::Unknown => tell_card_parts("Unknown", Part::Text(""), err),
+        CardFault::NotWhole(field) => tell_card_parts("NotWhole ", Part::Text(field.name()), err),
+        CardFault::Range(field) => tell_card_parts("Range ", Part::Text(field.name()), err),
+        CardFault::Invalid(rule) => {
+            tell_card_parts("Invalid ", Part::Number(u64::from(rule)), err)
+        }
+        CardFault::Memory => tell_card_parts("Memory", Part::Text(""), err),
+    }
+}
+
+/// Writes the line of a card's refusal of this kind, with this field or number.
+fn tell_card_parts<E: Sink>(kind: &'static str, detail: Part, err: &mut E) -> Result<(), Failed>
+    ensures line { Writes (E.written err.old) (E.written err.new)
+        (codes "card refused: " ++ (kind.now ++ (part_bytes detail ++ codes "\n"))) result }
+    ensures cause { HasCause result (E.faults err.old) (E.faults err.new) }
+{
+    tell_parts(
+        &[
+            Part::Text("card refused: "),
+            Part::Text(kind),
+            detail,
+            Part::Text("\n"),
+        ],
+        err,
+    )
 }
 
 /// Writes the parts, one behind the other.

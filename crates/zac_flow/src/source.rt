@@ -4,9 +4,9 @@ ghost use Rattle.std.specs.Prelude.{◌≡◌, ◌<◌, ◌≤◌, ◌⊎◌, �
 ghost use Rattle.qasm_lex.specs.Cuts.{AreTokensOf};
 ghost use Rattle.qasm_parse.specs.Statements.{IsStatement, IsSyntaxFault};
 ghost use Rattle.qasm_parse.specs.Symbols.{lexemes_of};
-ghost use Rattle.zac_flow.specs.Compiled.{IsReadAs, source_limit};
-ghost use Rattle.zac_flow.specs.Faults.{IsFaultOrWant};
-ghost use Rattle.zac_flow.specs.Source.{IsAcceptedTo};
+ghost use Rattle.zac_flow.specs.Inputs.{source_limit};
+ghost use Rattle.zac_flow.specs.Refusals.{IsRefusalOrWant};
+ghost use Rattle.zac_flow.specs.Source.{IsAccepted, IsAcceptedTo};
 
 use crate::source_fault::Refusal;
 use crate::status::Fault;
@@ -20,8 +20,8 @@ use std::alloc::Global;
 /// judgement of each statement, the time is in proportion to the bytes. Want of memory may come always.
 pub fn read_source(alloc: Global, source: &[u8]) -> Result<Scope, Fault>
     requires { length source.now ≤ source_limit }
-    ensures ok { IfOk result (λ program. IsReadAs source.now program) }
-    ensures fault { IfErr result (IsFaultOrWant source.now) }
+    ensures ok { IfOk result (λ program. IsAccepted source.now program) }
+    ensures fault { IfErr result (IsRefusalOrWant source.now) }
 {
     let tokens = tokens_of(alloc, source)?;
     let scope = read_statements(alloc, source, &tokens)?;
@@ -38,7 +38,7 @@ pub fn read_source(alloc: Global, source: &[u8]) -> Result<Scope, Fault>
 fn tokens_of(alloc: Global, source: &[u8]) -> Result<Tokens, Fault>
     requires { length source.now ≤ source_limit }
     ensures ok { IfOk result (λ lexed. AreTokensOf source.now lexed) }
-    ensures fault { IfErr result (IsFaultOrWant source.now) }
+    ensures fault { IfErr result (IsRefusalOrWant source.now) }
 {
     match lex(alloc, source) {
         Ok(tokens) => Ok(tokens),
@@ -55,7 +55,7 @@ fn read_statements(alloc: Global, source: &[u8], tokens: &Tokens) -> Result<Scop
     requires short { length source.now ≤ source_limit }
     requires lexed { AreTokensOf source.now tokens.now }
     ensures ok { IfOk result (λ program. IsAcceptedTo source.now tokens.now program (length tokens.now.tokens)) }
-    ensures fault { IfErr result (IsFaultOrWant source.now) }
+    ensures fault { IfErr result (IsRefusalOrWant source.now) }
 {
     let count = tokens.all().len() as u32;
     let mut scope = Scope::new(alloc)?;
@@ -79,7 +79,7 @@ fn read_statement(
     requires place { place < length tokens.now.tokens }
     ensures ok { IfOk result (λ next. IsAcceptedTo source.now tokens.now scope.new next) }
     ensures within { IfOk result (λ next. (place < next) × (next ≤ length tokens.now.tokens)) }
-    ensures fault { IfErr result (IsFaultOrWant source.now) }
+    ensures fault { IfErr result (IsRefusalOrWant source.now) }
 {
     let (statement, next) = statement_at(alloc, source, tokens, place)?;
     scope.check(&statement)?;

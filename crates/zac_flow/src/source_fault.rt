@@ -1,8 +1,9 @@
-//! Why a source is refused, and which limits it may pass: the names that are told.
+//! Which files are read, why a source is refused, and which limits it may pass: the names that are told.
 
 ghost use Rattle.std.specs.Prelude.{◌≡◌};
 ghost use Rattle.zac_flow.specs.Kinds.{limit_name, scope_name};
 
+use crate::status::InputFile;
 use qasm_expand::LimitKind;
 use qasm_scope::ScopeKind;
 
@@ -28,6 +29,20 @@ impl Refusal {
             Refusal::Lex => "Lex",
             Refusal::Syntax => "Syntax",
             Refusal::Scope { kind } => scope_name(*kind),
+        }
+    }
+}
+
+impl InputFile {
+    ghost use Rattle.zac_flow.specs.Kinds.{file_name};
+
+    /// The name of the file.
+    pub fn name(&self) -> &'static str
+        ensures { result.now ≡ file_name self.now }
+    {
+        match self {
+            InputFile::Card => "card",
+            InputFile::Source => "source",
         }
     }
 }

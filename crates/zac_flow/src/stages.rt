@@ -1,66 +1,67 @@
-//! The stages of a command.
+//! The stages of `compile`: from its inputs to its text.
 
-ghost use Rattle.std.specs.Prelude.{◌≡◌, ◌<◌, ◌≤◌, ◌⊎◌, Err, IfOk, IfErr, OnOk, Some, length};
+ghost use Rattle.std.specs.Prelude.{◌≡◌, ◌<◌, ◌≤◌, ◌⊎◌, Err, IfOk, IfErr, OnOk, length};
 ghost use Rattle.zac_arch.specs.Architecture.{storage_count};
-ghost use Rattle.zac_arch.specs.Tiny.{tiny_architecture};
-ghost use Rattle.zac_io.specs.Outside.{RoseWhere, is_missing, IsLonger, Appends, AppendsPrefix};
+ghost use Rattle.zac_archfile.specs.declared.fault.CardFault.{CardFault};
+ghost use Rattle.zac_io.specs.Outside.{Appends, AppendsPrefix};
 ghost use Rattle.zair_machine.specs.Performs.{Performs};
 ghost use Rattle.zair_text.specs.Lines.{program_text, program_lines};
 ghost use Rattle.zair_text.specs.Ranges.{AreWritable};
 ghost use Rattle.zair_text.specs.Writing.{AppendsLines};
 ghost use Rattle.zac_flow.specs.Answers.{RisesAt};
-ghost use Rattle.zac_flow.specs.Compiled.{MayHold, IsCircuitOf, CompilesTo, source_limit};
-ghost use Rattle.zac_flow.specs.Faults.{IsFaultOrWant};
+ghost use Rattle.zac_flow.specs.Compiled.{IsCircuitOf, CompilesTo};
+ghost use Rattle.zac_flow.specs.Faults.{IsFaultOrWant, outcome};
+ghost use Rattle.zac_flow.specs.Inputs.{AreShort, IsCardOf, IsRefusedCard};
+ghost use Rattle.zac_flow.specs.declared.status.Status.TheVariants as status;
 
+use crate::inputs::{CardInput, Inputs};
 use crate::source::read_source;
 use crate::status::Fault;
 use qasm_expand::{ExpandFault, expand};
 use std::alloc::Global;
 use zac_arch::Card;
-use zac_gates::{Bytes, Circuit};
-use zac_io::{ReadFault, Shelf, Sink, read_all};
+use zac_archfile::read_card;
+use zac_gates::Circuit;
+use zac_io::Sink;
 use zac_plan::{PlanFault, compile};
 use zair_form::Program;
 use zair_text::{WriteFault, write_program};
 
-/// The most bytes of a source.
-const SOURCE_LIMIT: u32 = 4_194_304;
-
-/// The bytes of the source of this name.
-pub fn source_from<S: Shelf>(alloc: Global, shelf: &mut S, name: &str) -> Result<Bytes, Fault>
-    ensures held { IfOk result (MayHold (S.files shelf.old) (Some name.now)) }
-    ensures short { IfOk result (λ bytes. length bytes ≤ source_limit) }
-    ensures fault { IfErr result (λ f. (f ≡ Fault.Read) ⊎ (f ≡ Fault.Memory) ⊎ ((f ≡ Fault.Long) × IsLonger (S.files shelf.old) name.now source_limit)) }
-    ensures reads { RisesAt (Err Fault.Read) result (S.faults shelf.old) (S.faults shelf.new) }
-    ensures stray { RoseWhere (is_missing (S.files shelf.old) name.now) (S.strays shelf.old) (S.strays shelf.new) }
-    ensures same_files { S.files shelf.new ≡ S.files shelf.old }
+/// The program of a card and a source. The card is judged first, then the source, its limits, and its number of qubits.
+pub fn program_from(alloc: Global, inputs: &Inputs) -> Result<Program, Fault>
+    requires { AreShort inputs.now }
+    ensures ok { IfOk result (CompilesTo inputs.now) }
+    ensures fault { IfErr result (IsFaultOrWant inputs.now) }
 {
-    match read_all(alloc, shelf, name, SOURCE_LIMIT) {
-        Ok(bytes) => Ok(bytes),
-        Err(ReadFault::Failed) => Err(Fault::Read),
-        Err(ReadFault::TooLong) => Err(Fault::Long),
-        Err(ReadFault::Memory) => Err(Fault::Memory),
+    let card = card_of(alloc, &inputs.card)?;
+    let circuit = circuit_from(alloc, &card, inputs)?;
+    plan_from(alloc, &card, &circuit)
+}
+
+/// The card.
+fn card_of(alloc: Global, card: &CardInput) -> Result<Card, Fault>
+    ensures ok { IfOk result (IsCardOf card.now) }
+    ensures fault { IfErr result (λ f. (f ≡ Fault.Memory) ⊎ ((cause : CardFault) × (f ≡ Fault.Card cause) × IsRefusedCard card.now cause)) }
+{
+    match card {
+        CardInput::Tiny => Ok(Card::tiny(alloc)?),
+        CardInput::Standard => Ok(Card::standard(alloc)?),
+        CardInput::Text(bytes) => match read_card(alloc, bytes.as_slice()) {
+            Ok(card) => Ok(card),
+            Err(fault) => Err(Fault::from(fault)),
+        },
     }
 }
 
-/// The program of a source on the tiny card.
-pub fn program_from(alloc: Global, source: &[u8]) -> Result<Program, Fault>
-    requires { length source.now ≤ source_limit }
-    ensures ok { IfOk result (CompilesTo source.now) }
-    ensures fault { IfErr result (IsFaultOrWant source.now) }
-{
-    let circuit = circuit_from(alloc, source)?;
-    plan_from(alloc, &circuit)
-}
-
-/// The native circuit of a source.
-fn circuit_from(alloc: Global, source: &[u8]) -> Result<Circuit, Fault>
-    requires { length source.now ≤ source_limit }
-    ensures ok { IfOk result (IsCircuitOf source.now) }
+/// The native circuit of the source, behind its card.
+fn circuit_from(alloc: Global, card: &Card, inputs: &Inputs) -> Result<Circuit, Fault>
+    requires short { AreShort inputs.now }
+    requires card { IsCardOf inputs.now.card card.now }
+    ensures ok { IfOk result (IsCircuitOf inputs.now card.now) }
     ensures few { IfOk result (λ circuit. length circuit.ops ≤ 786432) }
-    ensures fault { IfErr result (IsFaultOrWant source.now) }
+    ensures fault { IfErr result (IsFaultOrWant inputs.now) }
 {
-    let scope = read_source(alloc, source)?;
+    let scope = read_source(alloc, inputs.source.as_slice())?;
     match expand(alloc, scope.program()) {
         Ok(circuit) => Ok(circuit),
         Err(ExpandFault::Limit { kind, count }) => Err(Fault::Limit { kind, count }),
@@ -68,16 +69,15 @@ fn circuit_from(alloc: Global, source: &[u8]) -> Result<Circuit, Fault>
     }
 }
 
-/// The program of a circuit on the tiny card.
-fn plan_from(alloc: Global, circuit: &Circuit) -> Result<Program, Fault>
+/// The program of a circuit on a card.
+fn plan_from(alloc: Global, card: &Card, circuit: &Circuit) -> Result<Program, Fault>
     requires { length circuit.now.ops ≤ 786432 }
-    ensures ok { IfOk result (Performs tiny_architecture circuit.now) }
-    ensures fits { OnOk result (circuit.now.qubits ≤ storage_count tiny_architecture) }
-    ensures fault { IfErr result (λ f. (f ≡ Fault.Memory) ⊎ ((f ≡ Fault.Qubits circuit.now.qubits (storage_count tiny_architecture))
-        × (storage_count tiny_architecture < circuit.now.qubits))) }
+    ensures ok { IfOk result (Performs card.now circuit.now) }
+    ensures fits { OnOk result (circuit.now.qubits ≤ storage_count card.now) }
+    ensures fault { IfErr result (λ f. (f ≡ Fault.Memory) ⊎ ((f ≡ Fault.Qubits circuit.now.qubits (storage_count card.now))
+        × (storage_count card.now < circuit.now.qubits))) }
 {
-    let card = Card::tiny(alloc)?;
-    match compile(alloc, &card, circuit) {
+    match compile(alloc, card, circuit) {
         Ok(program) => Ok(program),
         Err(PlanFault::TooManyQubits { qubits, traps }) => Err(Fault::Qubits { qubits, traps }),
         Err(PlanFault::Memory) => Err(Fault::Memory),
@@ -90,7 +90,7 @@ pub fn write_text<K: Sink>(alloc: Global, program: &Program, out: &mut K) -> Res
     ensures writable { OnOk result (AreWritable program.now) }
     ensures fault { IfErr result (λ f. ((f ≡ Fault.Write) × AppendsPrefix (K.written out.old) (K.written out.new) (program_text program.now))
         ⊎ ((f ≡ Fault.Memory) × AppendsLines (K.written out.old) (K.written out.new) (program_lines program.now))) }
-    ensures writes { RisesAt (Err Fault.Write) result (K.faults out.old) (K.faults out.new) }
+    ensures writes { RisesAt status.WriteFault (outcome result) (K.faults out.old) (K.faults out.new) }
 {
     match write_program(alloc, program, out) {
         Ok(()) => Ok(()),

@@ -4,6 +4,7 @@ ghost use Rattle.std.specs.Prelude.{◌≡◌};
 
 use crate::source_fault::Refusal;
 use qasm_expand::LimitKind;
+use zac_archfile::CardFault;
 use zac_gates::Memory;
 
 /// The status with which a command ends.
@@ -21,6 +22,8 @@ pub enum Status {
     WriteFault,
     /// There was no memory.
     NoMemory,
+    /// The card is refused.
+    CardRefused,
     /// The circuit has more qubits than the card has storage traps.
     TooManyQubits,
     /// A file is longer than its limit.
@@ -43,6 +46,7 @@ impl Status {
             Status::ReadFault => 3,
             Status::WriteFault => 4,
             Status::NoMemory => 5,
+            Status::CardRefused => 6,
             Status::TooManyQubits => 7,
             Status::TooLong => 10,
             Status::Limit => 11,
@@ -50,15 +54,26 @@ impl Status {
     }
 }
 
+/// A file that a command reads.
+#[derive(Clone, Copy, Debug, PartialEq, Eq)]
+pub enum InputFile {
+    /// That of the card.
+    Card,
+    /// That of the source.
+    Source,
+}
+
 /// Why a command is refused.
 #[derive(Clone, Copy, Debug, PartialEq, Eq)]
 pub enum Fault {
     /// The words are no command.
     Usage,
-    /// The source could not be read.
-    Read,
-    /// The source is longer than its limit.
-    Long,
+    /// A file could not be read.
+    Read { file: InputFile },
+    /// A file is longer than its limit.
+    Long { file: InputFile },
+    /// The card is refused.
+    Card { fault: CardFault },
     /// The source is refused, with this kind at this offset.
     Source { kind: Refusal, at: u32 },
     /// The source passes this limit, with this count.
@@ -80,13 +95,28 @@ impl Fault {
     {
         match self {
             Fault::Usage => Status::Usage,
-            Fault::Read => Status::ReadFault,
-            Fault::Long => Status::TooLong,
+            Fault::Read { .. } => Status::ReadFault,
+            Fault::Long { .. } => Status::TooLong,
+            Fault::Card { .. } => Status::CardRefused,
             Fault::Source { .. } => Status::SourceRefused,
             Fault::Limit { .. } => Status::Limit,
             Fault::Qubits { .. } => Status::TooManyQubits,
             Fault::Write => Status::WriteFault,
             Fault::Memory => Status::NoMemory,
+        }
+    }
+}
+
+impl From<CardFault> for Fault {
+    ghost use Rattle.std.specs.Prelude.{◌≡◌};
+    ghost use Rattle.zac_flow.specs.Faults.{card_fault_of};
+
+    ghost from_gives = { λ e f. f ≡ card_fault_of e };
+
+    fn from(fault: CardFault) -> Fault {
+        match fault {
+            CardFault::Memory => Fault::Memory,
+            _ => Fault::Card { fault },
         }
     }
 }

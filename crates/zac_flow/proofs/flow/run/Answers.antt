@@ -1,34 +1,30 @@
-use Rattle.std.proofs.Common.{◌≡◌, ◌∙◌, ℕ, List, Option, Some, Result, Err, refl, sym, ap, subst, rules}
-use Rattle.zac_flow.specs.Answers.{WritesProgram, IsExact, RisesAt}
-use Rattle.zac_flow.specs.Faults.{Means, status_of}
-use Rattle.zac_flow.specs.declared.status.Fault.{Fault}
-use Rattle.zac_flow.specs.declared.status.Fault.TheVariants.{Usage, Read, Write}
+use Rattle.std.proofs.Common.{◌≡◌, ◌≢◌, Option, subst}
+use Rattle.zac_io.specs.Outside.{Rose}
+use Rattle.zac_flow.specs.Answers.{Does, IsRefusedBy, IsExact, StraysRise}
+use Rattle.zac_flow.specs.Words.{Command}
 use Rattle.zac_flow.specs.declared.status.Status.TheVariants.{Done}
-use Rattle.zac_flow.proofs.Ending.{done_exact, refused_exact}
-use Rattle.zac_flow.proofs.Meaning.{read_alone, write_alone}
+use Rattle.zac_flow.proofs.Naming.{one_name}
 use Rattle.zac_flow.proofs.flow.run.Goals as goal
 
-pub returns-in-None-clause-refused : goal.returns-in-None-clause-refused
-returns-in-None-clause-refused g c =
-    let at = c.refuse.ensures in
-    λ other. record { fault = Usage; status_is = at.status; means = sym c.in-None.ensures; leaves = refl; told = at.told }
+pub returns-clause-done : goal.returns-clause-done
+returns-clause-done g c = λ command is.
+    let P : Option Command → Type 0 = λ x. c.answer.result ≡ Done → Does (g.S.Shelf.files c.args.shelf.now) x (g.K.Sink.written c.args.out.now) (g.K.Sink.written c.answer.new.out) in
+    subst P (one_name _ _ command c.read_words.ensures.name is) c.answer.ensures.done
 
-pub returns-in-Ok-clause-exact : goal.returns-in-Ok-clause-exact
-returns-in-Ok-clause-exact g c =
-    let files = g.S.Shelf.files c.args.shelf.now in
-    let wrote : WritesProgram files (Some c.in-Some.name.now) (g.K.Sink.written c.args.out.now) (g.K.Sink.written c.compile_file.new.out) = search rules in
-    let P : Option (List ℕ) → Type 0 = λ n. IsExact files n Done in
-    λ calm_shelf calm_sink. subst P c.in-Some.ensures (done_exact files (Some c.in-Some.name.now) (g.K.Sink.written c.args.out.now) (g.K.Sink.written c.compile_file.new.out) wrote)
+pub returns-clause-refused : goal.returns-clause-refused
+returns-clause-refused g c = λ command is.
+    let P : Option Command → Type 0 = λ x. c.answer.result ≢ Done → IsRefusedBy (g.S.Shelf.files c.args.shelf.now) x c.answer.result
+    (g.K.Sink.written c.args.out.now) (g.K.Sink.written c.answer.new.out) (g.E.Sink.written c.args.err.now) (g.E.Sink.written c.answer.new.err)
+    (g.E.Sink.faults c.args.err.now) (g.E.Sink.faults c.answer.new.err) in
+    subst P (one_name _ _ command c.read_words.ensures.name is) c.answer.ensures.refused
 
-pub returns-in-Err-clause-exact : goal.returns-in-Err-clause-exact
-returns-in-Err-clause-exact g c =
-    let files = g.S.Shelf.files c.args.shelf.now in
-    let fault = c.in-Err.fault in
-    let same : c.refuse-in-Err.result ≡ status_of fault = search rules in
-    let means : Means files (Some c.in-Some.name.now) fault = search rules in
-    let reads : RisesAt {A = Result Unit Fault} (Err Read) (Err fault) (g.S.Shelf.faults c.args.shelf.now) (g.S.Shelf.faults c.compile_file.new.shelf) = search rules in
-    let writes : RisesAt {A = Result Unit Fault} (Err Write) (Err fault) (g.K.Sink.faults c.args.out.now) (g.K.Sink.faults c.compile_file.new.out) = search rules in
-    let P : Option (List ℕ) → Type 0 = λ n. IsExact files n c.refuse-in-Err.result in
-    λ calm_shelf calm_sink. subst P c.in-Some.ensures (refused_exact files (Some c.in-Some.name.now) fault c.refuse-in-Err.result same means
-    (λ e. calm_shelf (reads.rises (ap (λ (x : Fault). Err x) (read_alone fault (sym same ∙ e)))))
-    (λ e. calm_sink (writes.rises (ap (λ (x : Fault). Err x) (write_alone fault (sym same ∙ e))))))
+pub returns-clause-exact : goal.returns-clause-exact
+returns-clause-exact g c = λ command is.
+    let P : Option Command → Type 0 = λ x. ¬ Rose (g.S.Shelf.faults c.args.shelf.now) (g.S.Shelf.faults c.answer.new.shelf) →
+    ¬ Rose (g.K.Sink.faults c.args.out.now) (g.K.Sink.faults c.answer.new.out) → IsExact (g.S.Shelf.files c.args.shelf.now) x c.answer.result in
+    subst P (one_name _ _ command c.read_words.ensures.name is) c.answer.ensures.exact
+
+pub returns-clause-strays : goal.returns-clause-strays
+returns-clause-strays g c = λ command is.
+    let P : Option Command → Type 0 = λ x. StraysRise (g.S.Shelf.files c.args.shelf.now) x (g.S.Shelf.strays c.args.shelf.now) (g.S.Shelf.strays c.answer.new.shelf) in
+    subst P (one_name _ _ command c.read_words.ensures.name is) c.answer.ensures.strays

@@ -12,4 +12,7 @@ pub returns-clause-not_both : goal.returns-clause-not_both
 returns-clause-not_both c = λ source statements k at accepted refused. accepted_or_refused source statements accepted k at refused
 
 pub returns-clause-one_fault : goal.returns-clause-one_fault
-returns-clause-one_fault c = fault_once
+returns-clause-one_fault c =
+    let law = c.card_or_one_fault.ensures in
+    λ inputs fault other left right.
+    fault_once (record { card = law.one_card; fault = law.one_fault; not_both = law.not_both }) inputs fault other left right
