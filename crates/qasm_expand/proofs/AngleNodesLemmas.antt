@@ -6,9 +6,9 @@ use Rattle.std.specs.Map.{lookup}
 use Rattle.std.specs.Str.{bytes_eq}
 use Rattle.std.proofs.lemmas.Bool.{false≢true}
 use Rattle.std.proofs.lemmas.Slice.Eq.{bytes_eq-Decides}
-use Rattle.qasm_parse.specs.declared.stmt.Expr.{Expr}
-use Rattle.qasm_parse.specs.declared.stmt.Node.{Node}
-use Rattle.qasm_parse.specs.declared.stmt.Node.TheVariants as node
+use Rattle.qasm_form.specs.declared.stmt.Expr.{Expr}
+use Rattle.qasm_form.specs.declared.stmt.Node.{Node}
+use Rattle.qasm_form.specs.declared.stmt.Node.TheVariants as node
 use Rattle.qasm_names.specs.Names.{value_or}
 use Rattle.qasm_expand.specs.Angles.{replaced, substitute}
 use Rattle.qasm_expand.specs.Walks.{angles_in}

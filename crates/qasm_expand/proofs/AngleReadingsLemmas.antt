@@ -2,9 +2,9 @@
 use Rattle.std.proofs.Common.{◌≡◌, ℕ, List, [], ◌∷◌, refl, sym as flip, ◌∙◌, ap, arith, length, drop, ◌≤◌}
 use Rattle.std.specs.Prelude.{map}
 use Rattle.std.proofs.lemmas.List.{drop_all}
-use Rattle.qasm_parse.specs.declared.stmt.Node.{Node}
-use Rattle.qasm_parse.specs.declared.stmt.Node.TheVariants as node
-use Rattle.qasm_parse.specs.Postfix.{IsPostfix}
+use Rattle.qasm_form.specs.declared.stmt.Node.{Node}
+use Rattle.qasm_form.specs.declared.stmt.Node.TheVariants as node
+use Rattle.qasm_form.specs.Postfix.{IsPostfix}
 use Rattle.qasm_expand.specs.StackReadings.{Reading, on_one, on_two, read_node, read_nodes, first_or}
 use Rattle.qasm_expand.specs.Trees.{Tree, depth, text}
 use Rattle.qasm_expand.specs.Angles.{trees, angle_text, depth_of}

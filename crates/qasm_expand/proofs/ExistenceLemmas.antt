@@ -4,11 +4,11 @@ use Rattle.std.specs.List.{AllByRecursion, range_with_len}
 use Rattle.std.proofs.lemmas.List.{append-nil}
 use Rattle.std.proofs.lemmas.List.Elements.{recursion_from_All}
 use Rattle.zac_gates.specs.Ops.{NativeCircuit}
-use Rattle.qasm_parse.specs.declared.stmt.BodyOp.{BodyOp}
-use Rattle.qasm_parse.specs.declared.stmt.Arg.{Arg}
-use Rattle.qasm_parse.specs.declared.stmt.Node.{Node}
-use Rattle.qasm_parse.specs.declared.stmt.Stmt.{Stmt}
-use Rattle.qasm_parse.specs.declared.stmt.Stmt.TheVariants as stmt
+use Rattle.qasm_form.specs.declared.stmt.BodyOp.{BodyOp}
+use Rattle.qasm_form.specs.declared.stmt.Arg.{Arg}
+use Rattle.qasm_form.specs.declared.stmt.Node.{Node}
+use Rattle.qasm_form.specs.declared.stmt.Stmt.{Stmt}
+use Rattle.qasm_form.specs.declared.stmt.Stmt.TheVariants as stmt
 use Rattle.qasm_names.specs.declared.fault.ScopeKind.TheVariants as kind
 use Rattle.qasm_names.specs.declared.gate.Bound.{Bound}
 use Rattle.qasm_names.specs.declared.gate.GateDef.{GateDef}

@@ -4,7 +4,7 @@ use Rattle.std.specs.Prelude.{map, zip, reverse}
 use Rattle.std.specs.List.{AllByRecursion, slice_get}
 use Rattle.std.proofs.lemmas.List.{length-reverse}
 use Rattle.std.proofs.lemmas.Option.{slice_get_read}
-use Rattle.qasm_parse.specs.declared.stmt.Node.{Node}
+use Rattle.qasm_form.specs.declared.stmt.Node.{Node}
 use Rattle.qasm_names.specs.declared.gate.Bound.{Bound}
 use Rattle.qasm_names.specs.declared.gate.GateDef.{GateDef}
 use Rattle.qasm_names.specs.declared.gate.Target.{Target}
@@ -19,7 +19,7 @@ use Rattle.qasm_expand.specs.Items.{Item}
 use Rattle.qasm_expand.specs.Items.Item.{Applied}
 use Rattle.qasm_expand.specs.Replacing.{inner, body_call, body_of}
 use Rattle.qasm_expand.specs.Walks.{AreFit, OpensFrame, Steps, VisitsCall, VisitsFirst, angles_in, behind_call, call_of, pending, rest_of}
-use Rattle.qasm_parse.specs.declared.stmt.Expr.{Expr}
+use Rattle.qasm_form.specs.declared.stmt.Expr.{Expr}
 use Rattle.qasm_expand.specs.AngleNodes.{HasNoNames, IsExprOver}
 use Rattle.qasm_names.specs.Bound.{IsWellBound}
 use Rattle.qasm_expand.specs.Fit.{IsFit, Suits}

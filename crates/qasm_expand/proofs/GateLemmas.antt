@@ -5,10 +5,10 @@ use Rattle.std.specs.Map.{lookup}
 use Rattle.std.specs.Option.{option_or}
 use Rattle.std.specs.Str.{bytes_eq}
 use Rattle.std.proofs.lemmas.List.{length-map}
-use Rattle.qasm_parse.specs.declared.stmt.BodyOp.{BodyOp}
-use Rattle.qasm_parse.specs.declared.stmt.Named.{Named}
-use Rattle.qasm_parse.specs.declared.stmt.Stmt.{Stmt}
-use Rattle.qasm_parse.specs.declared.stmt.Stmt.TheVariants as stmt
+use Rattle.qasm_form.specs.declared.stmt.BodyOp.{BodyOp}
+use Rattle.qasm_form.specs.declared.stmt.Named.{Named}
+use Rattle.qasm_form.specs.declared.stmt.Stmt.{Stmt}
+use Rattle.qasm_form.specs.declared.stmt.Stmt.TheVariants as stmt
 use Rattle.qasm_names.specs.declared.gate.GateDef.{GateDef}
 use Rattle.qasm_names.specs.declared.gate.Target.{Target}
 use Rattle.qasm_names.specs.declared.gate.Target.TheVariants as target

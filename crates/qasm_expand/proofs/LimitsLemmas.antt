@@ -3,7 +3,7 @@ use Rattle.std.proofs.Common.{◌≡◌, ℕ, suc, ◌+◌, ◌≤◌, List, [],
 use Rattle.std.specs.Option.{option_or}
 use Rattle.std.specs.List.{AllByRecursion}
 use Rattle.std.proofs.lemmas.Bool.Decides.{nat_tests}
-use Rattle.qasm_parse.specs.declared.stmt.Node.{Node}
+use Rattle.qasm_form.specs.declared.stmt.Node.{Node}
 use Rattle.qasm_expand.specs.declared.fault.LimitKind.{LimitKind}
 use Rattle.qasm_expand.specs.declared.fault.LimitKind.TheVariants as limit
 use Rattle.qasm_expand.specs.Angles.{depth_of}

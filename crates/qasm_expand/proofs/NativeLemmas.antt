@@ -5,7 +5,7 @@ use Rattle.zac_gates.specs.Ops.{NativeCircuit, IsValid, IsCauseOf}
 use Rattle.zac_gates.specs.declared.circuit.CircuitFault.{CircuitFault}
 use Rattle.zac_gates.specs.declared.circuit.CircuitFault.TheVariants as refused
 use Rattle.zac_gates.specs.declared.circuit.Op.{Op}
-use Rattle.qasm_parse.specs.declared.stmt.Stmt.{Stmt}
+use Rattle.qasm_form.specs.declared.stmt.Stmt.{Stmt}
 use Rattle.qasm_names.specs.Accepted.{Program, AreAdmissible}
 use Rattle.qasm_names.specs.Environment.{environment}
 use Rattle.qasm_expand.specs.Answers.{TellsLimit}

@@ -2,7 +2,7 @@
 use Rattle.std.proofs.Common.{◌≡◌, ℕ, List, [], ◌∷◌, ◌++◌, false, true, Option, Some, None, refl, ap, subst, sym as flip, ◌∙◌}
 use Rattle.std.specs.List.{AllByRecursion, slice_get}
 use Rattle.zac_gates.specs.Ops.{NativeCircuit}
-use Rattle.qasm_parse.specs.declared.stmt.Node.{Node}
+use Rattle.qasm_form.specs.declared.stmt.Node.{Node}
 use Rattle.qasm_names.specs.declared.gate.GateDef.{GateDef}
 use Rattle.qasm_names.specs.declared.gate.Target.TheVariants as target
 use Rattle.qasm_names.specs.Accepted.{Program}

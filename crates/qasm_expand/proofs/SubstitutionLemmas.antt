@@ -6,10 +6,10 @@ use Rattle.std.specs.Str.{bytes_eq}
 use Rattle.std.proofs.lemmas.List.{take_more, take_all, drop_more, drop_all, append-nil, append_assoc}
 use Rattle.std.proofs.lemmas.Slice.Eq.{bytes_eq-Decides}
 use Rattle.std.proofs.lemmas.Bool.{false≢true}
-use Rattle.qasm_parse.specs.declared.stmt.Node.{Node}
-use Rattle.qasm_parse.specs.declared.stmt.Node.TheVariants as node
-use Rattle.qasm_parse.specs.Numbers.{HasNumber, IsExpression}
-use Rattle.qasm_parse.specs.Postfix.{with_one, with_two, operands, IsPostfix}
+use Rattle.qasm_form.specs.declared.stmt.Node.{Node}
+use Rattle.qasm_form.specs.declared.stmt.Node.TheVariants as node
+use Rattle.qasm_form.specs.Numbers.{HasNumber, IsExpression}
+use Rattle.qasm_form.specs.Postfix.{with_one, with_two, operands, IsPostfix}
 use Rattle.qasm_names.specs.Names.{value_or}
 use Rattle.qasm_expand.specs.Angles.{replaced, substitute}
 use Rattle.qasm_expand.specs.AngleNodes.{IsOver, IsExprOver, HasNoNames, StandsFor}

@@ -5,13 +5,13 @@ use Rattle.std.specs.List.{AllByRecursion, list_all}
 use Rattle.std.proofs.lemmas.Bool.{and_from, le-leb}
 use Rattle.std.proofs.lemmas.List.Folds.{list_all-append}
 use Rattle.zac_gates.specs.Angle.{is_angle_byte, is_angle}
-use Rattle.qasm_parse.specs.declared.stmt.Function.{Function}
-use Rattle.qasm_parse.specs.declared.stmt.Function.TheVariants as fun
-use Rattle.qasm_parse.specs.declared.stmt.Node.{Node}
-use Rattle.qasm_parse.specs.declared.stmt.Node.TheVariants as node
-use Rattle.qasm_parse.specs.Numbers.{HasNumber}
-use Rattle.qasm_parse.proofs.NumberBytes.{number_fits}
-use Rattle.qasm_parse.specs.Postfix.{IsPostfix}
+use Rattle.qasm_form.specs.declared.stmt.Function.{Function}
+use Rattle.qasm_form.specs.declared.stmt.Function.TheVariants as fun
+use Rattle.qasm_form.specs.declared.stmt.Node.{Node}
+use Rattle.qasm_form.specs.declared.stmt.Node.TheVariants as node
+use Rattle.qasm_form.specs.Numbers.{HasNumber}
+use Rattle.qasm_form.proofs.NumberBytes.{number_fits}
+use Rattle.qasm_form.specs.Postfix.{IsPostfix}
 use Rattle.qasm_expand.specs.Trees.{Tree, postfix, function_text, signed, text}
 use Rattle.qasm_expand.specs.Angles.{tree_of, angle_text}
 use Rattle.qasm_expand.specs.AngleNodes.{IsOver, HasNoNames}

@@ -5,9 +5,9 @@ use Rattle.std.specs.Map.{lookup}
 use Rattle.std.specs.Str.{bytes_eq}
 use Rattle.std.proofs.lemmas.List.{append-nil}
 use Rattle.std.proofs.lemmas.Grind.{flat_map-append}
-use Rattle.qasm_parse.specs.declared.stmt.Node.{Node}
-use Rattle.qasm_parse.specs.declared.stmt.Node.TheVariants as node
-use Rattle.qasm_parse.specs.Postfix.{with_one, with_two, operands, IsPostfix}
+use Rattle.qasm_form.specs.declared.stmt.Node.{Node}
+use Rattle.qasm_form.specs.declared.stmt.Node.TheVariants as node
+use Rattle.qasm_form.specs.Postfix.{with_one, with_two, operands, IsPostfix}
 use Rattle.qasm_names.specs.Names.{value_or}
 use Rattle.qasm_expand.specs.StackReadings.{Reading, on_one, on_two, read_nodes, first_or}
 use Rattle.qasm_expand.specs.Trees.{Tree, postfix, tree_with_angles}

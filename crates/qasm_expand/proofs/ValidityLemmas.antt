@@ -2,7 +2,7 @@
 use Rattle.std.proofs.Common.{◌≡◌, ℕ, List, [], ◌∷◌, ◌++◌, refl, sym, ◌∙◌, subst, append_assoc}
 use Rattle.std.specs.List.{AllByRecursion}
 use Rattle.zac_gates.specs.Ops.{IsValid}
-use Rattle.qasm_parse.specs.declared.stmt.Stmt.{Stmt}
+use Rattle.qasm_form.specs.declared.stmt.Stmt.{Stmt}
 use Rattle.qasm_names.specs.Names.{Environment}
 use Rattle.qasm_names.specs.Environment.{enter, environment, opening_names}
 use Rattle.qasm_names.specs.Accepted.{AreAdmissible}

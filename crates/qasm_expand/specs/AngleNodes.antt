@@ -1,9 +1,9 @@
 -- Inside: the nodes of expressions: how many operands each takes, and which names and numbers it may have.
 use Rattle.std.specs.Prelude.{◌≡◌, ℕ, ◌≤◌, List, [], ◌∷◌, length}
 use Rattle.std.specs.List.{AllByRecursion, Contains}
-use Rattle.qasm_parse.specs.declared.stmt.Node.{Node}
-use Rattle.qasm_parse.specs.declared.stmt.Node.TheVariants as node
-use Rattle.qasm_parse.specs.Numbers.{IsExpression}
+use Rattle.qasm_form.specs.declared.stmt.Node.{Node}
+use Rattle.qasm_form.specs.declared.stmt.Node.TheVariants as node
+use Rattle.qasm_form.specs.Numbers.{IsExpression}
 use Rattle.qasm_expand.specs.declared.angle_node.Arity.{Arity}
 use Rattle.qasm_expand.specs.declared.angle_node.Arity.TheVariants.{Leaf, One, Two}
 

@@ -1,7 +1,7 @@
 -- Inside: the texts and the depths of nodes, as they are read with a stack.
 use Rattle.std.specs.Prelude.{ℕ, suc, List, [], ◌++◌, max, codes}
-use Rattle.qasm_parse.specs.declared.stmt.Node.{Node}
-use Rattle.qasm_parse.specs.declared.stmt.Node.TheVariants as node
+use Rattle.qasm_form.specs.declared.stmt.Node.{Node}
+use Rattle.qasm_form.specs.declared.stmt.Node.TheVariants as node
 use Rattle.qasm_expand.specs.StackReadings.{Reading}
 use Rattle.qasm_expand.specs.Trees.{function_text, signed}
 

@@ -1,7 +1,7 @@
 -- The calls in their order, with their depths: a call comes right before the calls of its body, and these come before the
 -- next call.
 use Rattle.std.specs.Prelude.{ℕ, suc, List, [], ◌∷◌, ◌++◌, map, Option, Some, None, slice_get}
-use Rattle.qasm_parse.specs.declared.stmt.Node.{Node}
+use Rattle.qasm_form.specs.declared.stmt.Node.{Node}
 use Rattle.qasm_names.specs.declared.gate.GateDef.{GateDef}
 use Rattle.qasm_names.specs.declared.gate.Target.TheVariants as target
 use Rattle.qasm_expand.specs.Items.{Item}

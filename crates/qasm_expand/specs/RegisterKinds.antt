@@ -3,8 +3,8 @@ use Rattle.std.specs.Prelude.{◌≡◌, ℕ, ◌<◌, List, [], ◌∷◌, Some
 use Rattle.std.specs.List.{flat_map}
 use Rattle.std.specs.Map.{lookup}
 use Rattle.std.specs.Str.{bytes_eq}
-use Rattle.qasm_parse.specs.declared.stmt.Stmt.{Stmt}
-use Rattle.qasm_parse.specs.declared.stmt.Stmt.TheVariants as stmt
+use Rattle.qasm_form.specs.declared.stmt.Stmt.{Stmt}
+use Rattle.qasm_form.specs.declared.stmt.Stmt.TheVariants as stmt
 use Rattle.qasm_names.specs.Applications.{Place}
 use Rattle.qasm_expand.specs.declared.fault.LimitKind.{LimitKind}
 use Rattle.qasm_expand.specs.declared.fault.LimitKind.TheVariants as limit

@@ -1,7 +1,7 @@
 -- Calls are replaced by the bodies of their gates, the first call that has a body first, until none has.
 use Rattle.std.specs.Prelude.{◌≡◌, ℕ, suc, ◌<◌, Bool, true, false, IsTrue, List, ◌∷◌, ◌++◌, length, map, Some, slice_get, zip, get_or}
 use Rattle.std.specs.List.{AllByRecursion}
-use Rattle.qasm_parse.specs.declared.stmt.Node.{Node}
+use Rattle.qasm_form.specs.declared.stmt.Node.{Node}
 use Rattle.qasm_names.specs.declared.gate.Bound.{Bound}
 use Rattle.qasm_names.specs.declared.gate.GateDef.{GateDef}
 use Rattle.qasm_names.specs.declared.gate.Target.{Target}

@@ -1,6 +1,6 @@
 -- Inside: what names stand for where statements declare their registers of qubits alone.
 use Rattle.std.specs.Prelude.{ℕ, List, [], map, false}
-use Rattle.qasm_parse.specs.declared.stmt.Stmt.{Stmt}
+use Rattle.qasm_form.specs.declared.stmt.Stmt.{Stmt}
 use Rattle.qasm_names.specs.declared.meaning.Meaning.TheVariants as means
 use Rattle.qasm_names.specs.Names.{Environment, Declarations}
 use Rattle.qasm_expand.specs.declared.kind.RegisterKind.TheVariants as register

@@ -1,7 +1,7 @@
 -- Nodes in postfix order, read with a stack.
 use Rattle.std.specs.Prelude.{List, [], ◌∷◌}
-use Rattle.qasm_parse.specs.declared.stmt.Node.{Node}
-use Rattle.qasm_parse.specs.declared.stmt.Node.TheVariants as node
+use Rattle.qasm_form.specs.declared.stmt.Node.{Node}
+use Rattle.qasm_form.specs.declared.stmt.Node.TheVariants as node
 
 -- an operator takes its one operand, or its two, from the stack, and puts its own value there
 abbrev pub on_one : {A : Type 0} → (A → A) → List A → List A

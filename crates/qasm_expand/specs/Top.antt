@@ -1,9 +1,9 @@
 -- Inside: the calls of one statement, by the registers that the program's statements declare.
 use Rattle.std.specs.Prelude.{◌≡◌, ℕ, List, [], ◌∷◌, Option, Some, None, map, take, slice_get}
 use Rattle.std.specs.List.{AllByRecursion, flat_map, range_with_len}
-use Rattle.qasm_parse.specs.declared.stmt.Arg.{Arg}
-use Rattle.qasm_parse.specs.declared.stmt.BodyOp.{BodyOp}
-use Rattle.qasm_parse.specs.declared.stmt.Stmt.{Stmt}
+use Rattle.qasm_form.specs.declared.stmt.Arg.{Arg}
+use Rattle.qasm_form.specs.declared.stmt.BodyOp.{BodyOp}
+use Rattle.qasm_form.specs.declared.stmt.Stmt.{Stmt}
 use Rattle.qasm_names.specs.declared.gate.Bound.{Bound}
 use Rattle.qasm_names.specs.declared.gate.GateDef.{GateDef}
 use Rattle.qasm_names.specs.declared.gate.Target.{Target}

@@ -2,10 +2,10 @@
 use Rattle.std.specs.Prelude.{ℕ, suc, List, [], ◌∷◌, ◌++◌, max, codes}
 use Rattle.std.specs.Map.{lookup}
 use Rattle.std.specs.Str.{bytes_eq}
-use Rattle.qasm_parse.specs.declared.stmt.Function.{Function}
-use Rattle.qasm_parse.specs.declared.stmt.Function.TheVariants as fun
-use Rattle.qasm_parse.specs.declared.stmt.Node.{Node}
-use Rattle.qasm_parse.specs.declared.stmt.Node.TheVariants as node
+use Rattle.qasm_form.specs.declared.stmt.Function.{Function}
+use Rattle.qasm_form.specs.declared.stmt.Function.TheVariants as fun
+use Rattle.qasm_form.specs.declared.stmt.Node.{Node}
+use Rattle.qasm_form.specs.declared.stmt.Node.TheVariants as node
 use Rattle.qasm_names.specs.Names.{value_or}
 
 -- An expression as a tree: a number, as its source has it, pi, a parameter with its offset, or an operator with its

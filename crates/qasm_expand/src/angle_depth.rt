@@ -8,7 +8,7 @@ ghost use Rattle.qasm_expand.specs.StackReadings.{on_one, on_two, read_node};
 
 use crate::angle_node::{Arity, arity_of};
 use crate::angle_stack::{pop, push};
-use qasm_parse::{Expr, Node};
+use qasm_form::{Expr, Node};
 use std::alloc::Global;
 use zac_gates::Memory;
 

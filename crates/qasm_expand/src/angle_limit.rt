@@ -7,7 +7,7 @@ ghost use Rattle.qasm_expand.specs.Limits.{beyond, passed_by_angles};
 use crate::angle_depth::depth;
 use crate::fault::{ExpandFault, LimitKind};
 use crate::substitution::{node_count, substitute};
-use qasm_parse::Expr;
+use qasm_form::Expr;
 use std::alloc::Global;
 use zac_gates::{Bytes, Memory};
 

@@ -3,7 +3,7 @@
 ghost use Rattle.std.specs.Prelude.{◌≡◌};
 ghost use Rattle.qasm_expand.specs.AngleNodes.{arity_of};
 
-use qasm_parse::Node;
+use qasm_form::Node;
 
 /// How many operands a node takes.
 #[derive(Clone, Copy)]

@@ -7,7 +7,7 @@ ghost use Rattle.qasm_expand.specs.Numbering.{extent_in, extent_of};
 ghost use Rattle.qasm_expand.specs.RegisterKinds.{place_count};
 
 use crate::kind::RegisterKind;
-use qasm_parse::Stmt;
+use qasm_form::Stmt;
 use std::alloc::Global;
 use std::collections::HashMap;
 use zac_gates::Memory;

@@ -3,7 +3,7 @@
 ghost use Rattle.std.specs.Prelude.{◌≡◌, ◌<◌, length, IfOk, map, get_or};
 ghost use Rattle.std.specs.List.{AllByRecursion};
 
-use qasm_parse::Expr;
+use qasm_form::Expr;
 use smallvec::SmallVec;
 use std::alloc::Global;
 use zac_gates::{List, Memory};

@@ -1,7 +1,7 @@
 //! The two kinds of registers.
 
 use crate::fault::LimitKind;
-use qasm_parse::Stmt;
+use qasm_form::Stmt;
 
 /// What a register's places are.
 #[derive(Clone, Copy)]

@@ -1,8 +1,8 @@
 //! What the definitions say of angles, and the limits of a program, as laws. Each holds of every angle, or of every program.
 
 ghost use Rattle.std.specs.Prelude.{◌≡◌, ◌⊎◌, ℕ, [], List, map};
-ghost use Rattle.qasm_parse.specs.declared.stmt.Node.{Node};
-ghost use Rattle.qasm_parse.specs.Postfix.{IsPostfix};
+ghost use Rattle.qasm_form.specs.declared.stmt.Node.{Node};
+ghost use Rattle.qasm_form.specs.Postfix.{IsPostfix};
 ghost use Rattle.qasm_names.specs.Accepted.{Program, AreAdmissible};
 ghost use Rattle.qasm_names.specs.Scopes.{AreAdmissibleInHeader};
 ghost use Rattle.qasm_expand.specs.Angles as angle;

@@ -6,7 +6,7 @@ ghost use Rattle.qasm_expand.specs.Limits.{literal_of, literals_in, statement_li
 ghost use Rattle.qasm_expand.specs.Literals.{body_literals};
 
 use crate::fault::LimitKind;
-use qasm_parse::{BodyOp, Expr, Node, Stmt};
+use qasm_form::{BodyOp, Expr, Node, Stmt};
 
 /// The most bytes of a number.
 const MOST: usize = 40;

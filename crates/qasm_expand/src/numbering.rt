@@ -6,7 +6,7 @@ ghost use Rattle.qasm_expand.specs.RegisterKinds.{place_count};
 
 use crate::extent::{Extent, extents_of};
 use crate::kind::RegisterKind;
-use qasm_parse::{Arg, Stmt};
+use qasm_form::{Arg, Stmt};
 use smallvec::SmallVec;
 use std::alloc::Global;
 use std::collections::HashMap;

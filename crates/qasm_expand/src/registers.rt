@@ -4,7 +4,7 @@ ghost use Rattle.std.specs.Prelude.{◌≡◌};
 
 use crate::kind::RegisterKind;
 use crate::numbering::Numbering;
-use qasm_parse::{Arg, Stmt};
+use qasm_form::{Arg, Stmt};
 use smallvec::SmallVec;
 use std::alloc::Global;
 use std::marker::Model;
@@ -19,7 +19,7 @@ pub(crate) struct Registers<'a> {
 
 impl<'a> Model for Registers<'a> {
     ghost use Rattle.std.specs.Prelude.{◌≡◌, List};
-    ghost use Rattle.qasm_parse.specs.declared.stmt.Stmt.{Stmt};
+    ghost use Rattle.qasm_form.specs.declared.stmt.Stmt.{Stmt};
     ghost use Rattle.qasm_expand.specs.declared.kind.RegisterKind.TheVariants.{Qubit, Bit};
 
     ghost Value = { List Stmt };

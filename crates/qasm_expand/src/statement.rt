@@ -1,7 +1,7 @@
 //! The calls of each statement of a program, one behind the other.
 
 ghost use Rattle.std.specs.Prelude.{◌≡◌, ◌<◌, [], None, Some, length, slice_get, IfOk, OnOk, IfErr};
-ghost use Rattle.qasm_parse.specs.declared.stmt.Stmt.TheVariants as stmt;
+ghost use Rattle.qasm_form.specs.declared.stmt.Stmt.TheVariants as stmt;
 ghost use Rattle.qasm_names.specs.Accepted.{AreAdmissible};
 ghost use Rattle.qasm_names.specs.Environment.{environment};
 ghost use Rattle.qasm_names.specs.Scopes.{AreAdmissibleInHeader};
@@ -13,8 +13,8 @@ use crate::fault::ExpandFault;
 use crate::registers::Registers;
 use crate::top::{apply_all, measure_all};
 use crate::walk::Walk;
+use qasm_form::{BodyOp, Stmt};
 use qasm_names::SourceProgram;
-use qasm_parse::{BodyOp, Stmt};
 use std::alloc::Global;
 
 /// Visits the call that is the statement at a place, and all calls below it.

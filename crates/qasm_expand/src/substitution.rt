@@ -7,7 +7,7 @@ ghost use Rattle.std.specs.Str.{bytes_eq};
 ghost use Rattle.qasm_expand.specs.AngleNodes.{StandsFor};
 ghost use Rattle.qasm_expand.specs.Angles.{substitute, replaced};
 
-use qasm_parse::{Expr, Node};
+use qasm_form::{Expr, Node};
 use std::alloc::Global;
 use zac_gates::{Bytes, List, Memory};
 

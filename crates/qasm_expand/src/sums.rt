@@ -8,7 +8,7 @@ ghost use Rattle.qasm_expand.specs.RegisterKinds.{limit_of, most_of, sizes_of};
 use crate::fault::LimitKind;
 use crate::kind::RegisterKind;
 use crate::literals::passed_by_literals;
-use qasm_parse::Stmt;
+use qasm_form::Stmt;
 
 /// The first sum of the sizes of the kind's registers that passes their limit.
 fn passed_by_sizes(kind: RegisterKind, statements: &[Stmt]) -> Option<(LimitKind, u64)>

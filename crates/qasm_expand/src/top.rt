@@ -16,8 +16,8 @@ ghost use Rattle.qasm_expand.specs.declared.kind.RegisterKind.{RegisterKind};
 use crate::fault::ExpandFault;
 use crate::registers::Registers;
 use crate::walk::Walk;
+use qasm_form::{Arg, BodyOp};
 use qasm_names::{GateDef, Target};
-use qasm_parse::{Arg, BodyOp};
 use std::alloc::Global;
 
 /// Visits a call in each of its applications.

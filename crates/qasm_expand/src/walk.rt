@@ -5,7 +5,7 @@ ghost use Rattle.std.specs.Prelude.{◌≤◌};
 use crate::angle_limit::{past, substitute_within};
 use crate::fault::{ExpandFault, LimitKind};
 use crate::limit::refuse;
-use qasm_parse::Expr;
+use qasm_form::Expr;
 use std::alloc::Global;
 use zac_gates::{Bytes, List, Op};
 

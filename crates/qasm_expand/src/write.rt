@@ -8,8 +8,8 @@ ghost use Rattle.qasm_expand.specs.Walks.{IsSmall};
 ghost use Rattle.qasm_expand.specs.AngleNodes.{HasNoNames};
 
 use crate::angle_text::angle_text_of;
+use qasm_form::Expr;
 use qasm_names::Target;
-use qasm_parse::Expr;
 use std::alloc::Global;
 use zac_gates::{Angle, Angles, List, Memory, Op};
 

@@ -8,9 +8,9 @@ use Rattle.std.specs.Cmp.Lexicographic.{bytes_decides}
 use Rattle.std.specs.Map.{lookup}
 use Rattle.std.specs.Ordering.{nat_cmp}
 use Rattle.std.specs.Str.{bytes_eq}
-use Rattle.qasm_parse.specs.declared.stmt.Arg.{Arg}
-use Rattle.qasm_parse.specs.declared.stmt.Stmt.{Stmt}
-use Rattle.qasm_parse.specs.declared.stmt.Stmt.TheVariants as stmt
+use Rattle.qasm_form.specs.declared.stmt.Arg.{Arg}
+use Rattle.qasm_form.specs.declared.stmt.Stmt.{Stmt}
+use Rattle.qasm_form.specs.declared.stmt.Stmt.TheVariants as stmt
 use Rattle.qasm_names.specs.Reads.{ReadPlaces, is_at, with_read, with_reads_of, reads_after, no_reads, AreReadsOf}
 use Rattle.qasm_names.specs.Applications.{applications, times_by, WasRead}
 use Rattle.qasm_names.specs.Names.{Environment, qubit_size, value_or}

@@ -1,6 +1,6 @@
 -- Programs in which no statement is refused.
 use Rattle.std.specs.Prelude.{ℕ, List, [], ◌∷◌, ◌++◌}
-use Rattle.qasm_parse.specs.declared.stmt.Stmt.{Stmt}
+use Rattle.qasm_form.specs.declared.stmt.Stmt.{Stmt}
 use Rattle.qasm_names.specs.declared.fault.ScopeKind.{ScopeKind}
 use Rattle.qasm_names.specs.Names.{Environment}
 use Rattle.qasm_names.specs.Environment.{enter, environment}

@@ -1,9 +1,9 @@
 -- What the calls in the bodies of gates are bound to.
 use Rattle.std.specs.Prelude.{◌≡◌, ◌≢◌, ℕ, ◌<◌, List, length, Some, slice_get}
 use Rattle.std.specs.List.{All, AllPairs, Contains}
-use Rattle.qasm_parse.specs.declared.stmt.Expr.{Expr}
-use Rattle.qasm_parse.specs.declared.stmt.Node.{Node}
-use Rattle.qasm_parse.specs.declared.stmt.Node.TheVariants as node
+use Rattle.qasm_form.specs.declared.stmt.Expr.{Expr}
+use Rattle.qasm_form.specs.declared.stmt.Node.{Node}
+use Rattle.qasm_form.specs.declared.stmt.Node.TheVariants as node
 use Rattle.qasm_names.specs.declared.gate.Bound.{Bound}
 use Rattle.qasm_names.specs.declared.gate.GateDef.{GateDef}
 use Rattle.qasm_names.specs.declared.gate.Target.{Target}

@@ -3,9 +3,9 @@ use Rattle.std.specs.Prelude.{ℕ, List, [], ◌∷◌, length, codes}
 use Rattle.std.specs.List.{flat_map}
 use Rattle.qasm_lex.specs.Lexed.{Lexed}
 use Rattle.qasm_lex.specs.Cuts.{AreTokensOf}
-use Rattle.qasm_parse.specs.Symbols.{lexemes_of}
-use Rattle.qasm_parse.specs.Statements.{FallInto}
-use Rattle.qasm_parse.specs.declared.stmt.Stmt.{Stmt}
+use Rattle.qasm_form.specs.Symbols.{lexemes_of}
+use Rattle.qasm_form.specs.Statements.{FallInto}
+use Rattle.qasm_form.specs.declared.stmt.Stmt.{Stmt}
 
 -- The 23 names of the header that a file can't declare beside it, from `u3` to `cz`.
 abbrev pub fixed_names : List (List ℕ)

@@ -10,7 +10,7 @@ use crate::gate::{Bound, GateDef, Target};
 use crate::known::Known;
 use crate::meaning::Callee;
 use crate::places::Places;
-use qasm_parse::{BodyOp, Named};
+use qasm_form::{BodyOp, Named};
 use std::alloc::Global;
 use zac_gates::{List, Memory};
 

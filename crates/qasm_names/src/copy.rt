@@ -3,7 +3,7 @@
 ghost use Rattle.std.specs.Prelude.{◌≡◌, IfOk};
 ghost use Rattle.qasm_names.specs.Environment.{words_of};
 
-use qasm_parse::{Expr, Named};
+use qasm_form::{Expr, Named};
 use std::alloc::Global;
 use zac_gates::{Bytes, List, Memory};
 

@@ -1,6 +1,6 @@
 //! Gates, and what the calls in their bodies are bound to.
 
-use qasm_parse::Expr;
+use qasm_form::Expr;
 use zac_gates::{Bytes, List};
 
 /// What a call is bound to.

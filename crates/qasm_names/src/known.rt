@@ -9,7 +9,7 @@ use crate::binding::bound_gate;
 use crate::gate::{GateDef, Target};
 use crate::meaning::{Callee, Meaning};
 use crate::table::NameTable;
-use qasm_parse::{BodyOp, Named, Stmt};
+use qasm_form::{BodyOp, Named, Stmt};
 use std::alloc::Global;
 use std::marker::Model;
 use zac_gates::Memory;

@@ -1,7 +1,7 @@
 //! What holds of every program, as laws.
 
 ghost use Rattle.std.specs.Prelude.{◌≡◌, ◌++◌, [], ℕ, List};
-ghost use Rattle.qasm_parse.specs.declared.stmt.Stmt.{Stmt};
+ghost use Rattle.qasm_form.specs.declared.stmt.Stmt.{Stmt};
 ghost use Rattle.qasm_names.specs.Accepted.{AreAdmissible};
 ghost use Rattle.qasm_names.specs.Bound.{IsWellBound};
 ghost use Rattle.qasm_names.specs.Environment.{environment};

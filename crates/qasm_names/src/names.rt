@@ -6,7 +6,7 @@ ghost use Rattle.qasm_names.specs.Registers.{reads_of};
 
 use crate::known::Known;
 use crate::reads::Reads;
-use qasm_parse::Stmt;
+use qasm_form::Stmt;
 use std::alloc::Global;
 use std::marker::Model;
 use zac_gates::{List, Memory};

@@ -1,7 +1,7 @@
 //! The places of arguments among those of their gate.
 
 use crate::copy::copy_words;
-use qasm_parse::{Arg, Named};
+use qasm_form::{Arg, Named};
 use std::alloc::Global;
 use std::marker::Model;
 use zac_gates::{Bytes, List, Memory};
@@ -24,7 +24,7 @@ impl Places {
     ghost use Rattle.std.specs.Prelude.{◌≡◌, map, IfOk};
     ghost use Rattle.std.specs.List.{position_or_len};
     ghost use Rattle.std.specs.Str.{bytes_eq};
-    ghost use Rattle.qasm_parse.specs.declared.stmt.Arg.{Arg};
+    ghost use Rattle.qasm_form.specs.declared.stmt.Arg.{Arg};
     ghost use Rattle.qasm_names.specs.Environment.{words_of};
 
     /// The arguments of a gate.

@@ -4,7 +4,7 @@ use crate::binding::bound;
 use crate::gate::{GateDef, Target};
 use crate::known::Known;
 use crate::names::Names;
-use qasm_parse::Stmt;
+use qasm_form::Stmt;
 use std::marker::Model;
 use zac_gates::{List, Memory};
 
@@ -31,8 +31,8 @@ impl Model for SourceProgram {
 
 impl SourceProgram {
     ghost use Rattle.std.specs.Prelude.{◌≡◌, ℕ, [], ◌∷◌, ◌++◌, Some, take, slice_get, IfOk, OnOk, OnErr};
-    ghost use Rattle.qasm_parse.specs.declared.stmt.BodyOp.{BodyOp};
-    ghost use Rattle.qasm_parse.specs.declared.stmt.Stmt.TheVariants as stmt;
+    ghost use Rattle.qasm_form.specs.declared.stmt.BodyOp.{BodyOp};
+    ghost use Rattle.qasm_form.specs.declared.stmt.Stmt.TheVariants as stmt;
     ghost use Rattle.qasm_names.specs.Accepted.{AreAdmissible, IsAdmissible};
     ghost use Rattle.qasm_names.specs.Bound.{IsWellBound};
     ghost use Rattle.qasm_names.specs.Environment.{enter_all, environment, no_names};

@@ -4,16 +4,17 @@ use Rattle.std.specs.Prelude.{IfOk, IsErrOf}
 use Rattle.std.proofs.lemmas.List.{append-nil, take_at, drop_at, drop-drop, take-append-drop, take_rest}
 use Rattle.qasm_lex.specs.declared.token.Token.{Token}
 use Rattle.qasm_lex.specs.Lexed.{AreInOrder}
-use Rattle.qasm_parse.specs.declared.stmt.Stmt.{Stmt}
-use Rattle.qasm_parse.specs.declared.stmt.SyntaxFault.{SyntaxFault}
-use Rattle.qasm_parse.specs.declared.stmt.SyntaxFault.TheVariants.{Memory, At}
-use Rattle.qasm_parse.specs.Symbols.{Lexeme, lexemes_of}
-use Rattle.qasm_parse.specs.Readers.{offset_of}
+use Rattle.qasm_form.specs.declared.stmt.Stmt.{Stmt}
+use Rattle.qasm_parse.specs.declared.fault.SyntaxFault.{SyntaxFault}
+use Rattle.qasm_parse.specs.declared.fault.SyntaxFault.TheVariants.{Memory, At}
+use Rattle.qasm_form.specs.Symbols.{Lexeme, lexemes_of}
+use Rattle.qasm_form.specs.Statements.{offset_of}
 use Rattle.std.specs.Borrow.{Bor}
 use Rattle.qasm_parse.specs.Gives.{Fails, Gives, seen}
 use Rattle.qasm_parse.proofs.LoopLemmas.{length-lexemes_of}
 use Rattle.qasm_parse.specs.Readings.{statement_at, version_at}
-use Rattle.qasm_parse.specs.Statements.{StatementAt, IsStatement, Begins, BeginsNone, IsSyntaxFault, IsAnswer, reading_at}
+use Rattle.qasm_form.specs.Statements.{StatementAt, IsStatement, Begins, BeginsNone, IsSyntaxFault}
+use Rattle.qasm_parse.specs.ReadAnswers.{IsAnswer, reading_at}
 use Rattle.qasm_parse.proofs.DecidesLemmas.{Agrees, Stops, IsPrefixFree, Decides, meet, word_before}
 use Rattle.qasm_parse.proofs.StatementLemmas.{decides_statement, decides_version}
 

@@ -8,9 +8,10 @@ use Rattle.qasm_lex.specs.declared.token.TokenKind.{TokenKind}
 use Rattle.qasm_lex.specs.Lexed.{Lexed}
 use Rattle.qasm_lex.specs.Cuts.{Piece, piece_text, token_of, tokens_of, AreTokensOf}
 use Rattle.qasm_lex.specs.Cutting.{cut}
-use Rattle.qasm_parse.specs.declared.stmt.Stmt.{Stmt}
-use Rattle.qasm_parse.specs.Symbols.{Lexeme, lexeme_of, lexemes_of}
-use Rattle.qasm_parse.specs.Statements.{FallInto, IsStatement, reading_at}
+use Rattle.qasm_form.specs.declared.stmt.Stmt.{Stmt}
+use Rattle.qasm_form.specs.Symbols.{Lexeme, lexeme_of, lexemes_of}
+use Rattle.qasm_form.specs.Statements.{FallInto, IsStatement}
+use Rattle.qasm_parse.specs.ReadAnswers.{reading_at}
 use Rattle.qasm_parse.specs.Computing.{lexeme_at, lexemes_at, with_statement, read_more, statements_in, statements_of_pieces, computed_statements}
 use Rattle.qasm_parse.proofs.LoopLemmas.{length-lexemes_of}
 use Rattle.qasm_parse.proofs.AnswerLemmas.{answer_ok, left_at, reading_at_other, reading_shorter}

@@ -2,12 +2,13 @@
 use Rattle.std.proofs.Common.{◌≡◌, ℕ, List, [], ◌∷◌, ◌++◌, length, Option, Some, None, Result, Ok, Err, Bool, true, false, ◌⊎◌, refl, sym, ◌∙◌, ap, subst, inl, inr, ⊎_elim, arith, append_assoc, length-append}
 use Rattle.std.proofs.lemmas.Bool.{false≢true, cond_both}
 use Rattle.std.proofs.lemmas.List.{append-nil, append_cancel_left}
-use Rattle.qasm_parse.specs.declared.symbol.Symbol.{Symbol}
-use Rattle.qasm_parse.specs.Symbols.{Lexeme}
+use Rattle.qasm_form.specs.declared.symbol.Symbol.{Symbol}
+use Rattle.qasm_form.specs.Symbols.{Lexeme}
 use Rattle.qasm_parse.specs.SameSymbols.{same_symbol}
-use Rattle.qasm_parse.specs.Languages.{Language, Value, Token, OneOf, Or}
-use Rattle.qasm_parse.specs.Languages as lang
-use Rattle.qasm_parse.specs.Readers.{Reader, offset_of, and_then, value, token, accepted, one_of, choose}
+use Rattle.qasm_form.specs.Languages.{Language, Value, Token, OneOf, Or}
+use Rattle.qasm_form.specs.Languages as lang
+use Rattle.qasm_form.specs.Statements.{offset_of}
+use Rattle.qasm_parse.specs.Readers.{Reader, and_then, value, token, accepted, one_of, choose}
 use Rattle.qasm_parse.specs.Readers as read
 use Rattle.qasm_parse.proofs.SymbolLemmas.{same_symbol-true, same_symbol-refl}
 

@@ -1,17 +1,18 @@
 -- What a token does to the parts of an expression agrees with the productions.
 use Rattle.std.proofs.Common.{◌≡◌, ℕ, List, [], ◌∷◌, Some, ◌⊎◌, refl, sym as flip, ◌∙◌, ap, subst, inl, inr, ⊎_elim}
-use Rattle.qasm_parse.specs.declared.stmt.Function.{Function}
-use Rattle.qasm_parse.specs.declared.stmt.Function.TheVariants as fun
-use Rattle.qasm_parse.specs.declared.stmt.Node.{Node}
-use Rattle.qasm_parse.specs.declared.symbol.Symbol.{Symbol}
-use Rattle.qasm_parse.specs.declared.symbol.Symbol.TheVariants as sym
-use Rattle.qasm_parse.specs.declared.part.Operator.{Operator}
-use Rattle.qasm_parse.specs.declared.part.Operator.TheVariants as op
-use Rattle.qasm_parse.specs.declared.part.Part.{Part}
-use Rattle.qasm_parse.specs.declared.part.Part.TheVariants.{Expr, Terms, Term, Factors, Factor, Power, Exponent, Atom, Leaf, Token, Write}
+use Rattle.qasm_form.specs.declared.stmt.Function.{Function}
+use Rattle.qasm_form.specs.declared.stmt.Function.TheVariants as fun
+use Rattle.qasm_form.specs.declared.stmt.Node.{Node}
+use Rattle.qasm_form.specs.declared.symbol.Symbol.{Symbol}
+use Rattle.qasm_form.specs.declared.symbol.Symbol.TheVariants as sym
+use Rattle.qasm_form.specs.declared.part.Operator.{Operator}
+use Rattle.qasm_form.specs.declared.part.Operator.TheVariants as op
+use Rattle.qasm_form.specs.declared.part.Part.{Part}
+use Rattle.qasm_form.specs.declared.part.Part.TheVariants.{Expr, Terms, Term, Factors, Factor, Power, Exponent, Atom, Leaf, Token, Write}
 use Rattle.qasm_parse.specs.declared.part.AtomStart.TheVariants as start
-use Rattle.qasm_parse.specs.Symbols.{Lexeme}
-use Rattle.qasm_parse.specs.Expressions.{function_symbol, expr, plus, minus, no_terms, term, times, over, no_factors, negation, factor, power, exponent, no_exponent, leaf, paren, call, leaf_node, leaf_of, node_of, Derives, expands, takes, reads, writes, atom_start, sum_of, product_of}
+use Rattle.qasm_form.specs.Symbols.{Lexeme}
+use Rattle.qasm_form.specs.Expressions.{function_symbol, expr, plus, minus, no_terms, term, times, over, no_factors, negation, factor, power, exponent, no_exponent, leaf, paren, call, leaf_node, leaf_of, node_of, Derives, expands, takes, reads, writes}
+use Rattle.qasm_parse.specs.Running.{atom_start, sum_of, product_of}
 
 -- what may stand behind the parts of each level, so that no sign could belong to two
 abbrev pub AfterTerms : List Part → Type 0

@@ -1,8 +1,8 @@
 -- Tokens fall into statements in one way at most.
 use Rattle.std.proofs.Common.{◌≡◌, ℕ, ◌<◌, ◌≤◌, List, [], ◌∷◌, refl, sym as flip, subst, arith}
-use Rattle.qasm_parse.specs.declared.stmt.Stmt.{Stmt}
-use Rattle.qasm_parse.specs.Symbols.{Lexeme}
-use Rattle.qasm_parse.specs.Statements.{FallInto}
+use Rattle.qasm_form.specs.declared.stmt.Stmt.{Stmt}
+use Rattle.qasm_form.specs.Symbols.{Lexeme}
+use Rattle.qasm_form.specs.Statements.{FallInto}
 use Rattle.qasm_parse.proofs.AnswerLemmas.{statement_once}
 
 -- statements go on

@@ -1,16 +1,16 @@
 -- What each reader leaves is spelt as what it was given.
 use Rattle.std.proofs.Common.{◌≡◌, ℕ, List, Option, Some, Ok, Bool, refl, subst}
-use Rattle.qasm_parse.specs.declared.stmt.BodyOp.{BodyOp}
-use Rattle.qasm_parse.specs.declared.stmt.Expr.{Expr}
-use Rattle.qasm_parse.specs.declared.stmt.Named.{Named}
+use Rattle.qasm_form.specs.declared.stmt.BodyOp.{BodyOp}
+use Rattle.qasm_form.specs.declared.stmt.Expr.{Expr}
+use Rattle.qasm_form.specs.declared.stmt.Named.{Named}
 use Rattle.qasm_parse.specs.declared.opening.Follow.TheVariants.{Until}
-use Rattle.qasm_parse.specs.declared.symbol.Symbol.{Symbol}
-use Rattle.qasm_parse.specs.declared.symbol.Symbol.TheVariants as sym
-use Rattle.qasm_parse.specs.Symbols.{Lexeme}
-use Rattle.qasm_parse.specs.Numbers.{AreSpelt}
-use Rattle.qasm_parse.specs.Languages.{Language, Token, OneOf}
+use Rattle.qasm_form.specs.declared.symbol.Symbol.{Symbol}
+use Rattle.qasm_form.specs.declared.symbol.Symbol.TheVariants as sym
+use Rattle.qasm_form.specs.Symbols.{Lexeme}
+use Rattle.qasm_form.specs.Numbers.{AreSpelt}
+use Rattle.qasm_form.specs.Languages.{Language, Token, OneOf}
 use Rattle.qasm_parse.specs.Readers.{Reader, token, one_of}
-use Rattle.qasm_parse.specs.Grammar.{Expression, BodyOperation, Signature}
+use Rattle.qasm_form.specs.Grammar.{Expression, BodyOperation, Signature}
 use Rattle.qasm_parse.specs.Readings.{expr_then, body_item, signature, condition}
 use Rattle.qasm_parse.proofs.DecidesLemmas.{Agrees, Decides, decides_token, decides_one_of}
 use Rattle.qasm_parse.proofs.SameLemmas.{ItemThen, Item}

@@ -16,5 +16,4 @@ pub mod SpeltLemmas
 pub mod NumberLemmas
 pub mod TokenLemmas
 pub mod LeftLemmas
-pub mod NumberBytes
 pub mod Computed

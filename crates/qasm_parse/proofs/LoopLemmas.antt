@@ -1,23 +1,23 @@
 -- The loops that read lists and bodies.
 use Rattle.std.proofs.Common.{◌≡◌, ℕ, zero, suc, ◌<◌, List, [], ◌∷◌, ◌++◌, length, Option, Some, None, Result, Ok, Err, Bool, true, false, cond, refl, sym as flip, ◌∙◌, ap, subst, arith, append_assoc, length-append}
 use Rattle.qasm_lex.specs.declared.token.Token.{Token}
-use Rattle.qasm_parse.specs.declared.symbol.Symbol.TheVariants as sym
-use Rattle.qasm_parse.specs.declared.stmt.Arg.{Arg}
-use Rattle.qasm_parse.specs.declared.stmt.BodyOp.{BodyOp}
-use Rattle.qasm_parse.specs.declared.stmt.Expr.{Expr}
-use Rattle.qasm_parse.specs.declared.stmt.Named.{Named}
+use Rattle.qasm_form.specs.declared.symbol.Symbol.TheVariants as sym
+use Rattle.qasm_form.specs.declared.stmt.Arg.{Arg}
+use Rattle.qasm_form.specs.declared.stmt.BodyOp.{BodyOp}
+use Rattle.qasm_form.specs.declared.stmt.Expr.{Expr}
+use Rattle.qasm_form.specs.declared.stmt.Named.{Named}
 use Rattle.qasm_parse.specs.declared.opening.Follow.{Follow}
 use Rattle.qasm_parse.specs.declared.opening.Follow.TheVariants.{Until}
 use Rattle.qasm_parse.specs.declared.opening.Place.{Place}
-use Rattle.qasm_parse.specs.Symbols.{Lexeme, lexemes_of}
-use Rattle.qasm_parse.specs.Languages.{Language}
+use Rattle.qasm_form.specs.Symbols.{Lexeme, lexemes_of}
+use Rattle.qasm_form.specs.Languages.{Language}
 use Rattle.qasm_parse.specs.Readers.{Reader, and_then, first, prefixed, repeat, repeated}
-use Rattle.qasm_parse.specs.declared.stmt.SyntaxFault.{SyntaxFault}
-use Rattle.qasm_parse.specs.declared.stmt.SyntaxFault.TheVariants.{Memory, At}
+use Rattle.qasm_parse.specs.declared.fault.SyntaxFault.{SyntaxFault}
+use Rattle.qasm_parse.specs.declared.fault.SyntaxFault.TheVariants.{Memory, At}
 use Rattle.qasm_parse.specs.Bodies.{item_of}
 use Rattle.qasm_parse.specs.Gives.{Fails}
 use Rattle.std.proofs.lemmas.List.{append-nil}
-use Rattle.qasm_parse.specs.Grammar.{Expression, Name, BodyOperation}
+use Rattle.qasm_form.specs.Grammar.{Expression, Name, BodyOperation}
 use Rattle.qasm_parse.specs.Readings.{name_then, arg_then, expr_then, one_more, body_item}
 use Rattle.qasm_parse.proofs.DecidesLemmas.{Agrees, Decides}
 use Rattle.qasm_parse.proofs.SameLemmas.{ItemThen, Item}

@@ -2,12 +2,12 @@
 use Rattle.std.proofs.Common.{◌≡◌, ◌<◌, List, [], ◌∷◌, ◌++◌, length, None, refl, sym as flip, ◌∙◌, ap, arith, append_assoc}
 use Rattle.std.specs.Prelude.{reverse}
 use Rattle.std.proofs.lemmas.List.{append-nil, length-reverse}
-use Rattle.qasm_parse.specs.declared.stmt.Node.{Node}
-use Rattle.qasm_parse.specs.declared.part.Part.{Part}
+use Rattle.qasm_form.specs.declared.stmt.Node.{Node}
+use Rattle.qasm_form.specs.declared.part.Part.{Part}
 use Rattle.qasm_parse.specs.declared.expr.Move.{Move}
 use Rattle.qasm_parse.specs.declared.expr.Move.TheVariants as move
-use Rattle.qasm_parse.specs.Symbols.{Lexeme}
-use Rattle.qasm_parse.specs.Expressions.{Step, Taken, Refused, Passed, wrote, advance}
+use Rattle.qasm_form.specs.Symbols.{Lexeme}
+use Rattle.qasm_parse.specs.Running.{Step, Taken, Refused, Passed, wrote, advance}
 use Rattle.qasm_parse.specs.Moves.{Moves, Goes, wrote_all}
 
 -- parts that were passed over, and the nodes that they wrote

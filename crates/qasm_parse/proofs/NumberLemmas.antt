@@ -1,16 +1,17 @@
 -- The numbers of an expression have the texts of their tokens.
 use Rattle.std.proofs.Common.{◌≡◌, ℕ, List, [], ◌∷◌, Some, Ok, Bool, Option, subst}
 use Rattle.std.specs.List.{AllByRecursion}
-use Rattle.qasm_parse.specs.declared.stmt.Node.{Node}
-use Rattle.qasm_parse.specs.declared.symbol.Symbol.{Symbol}
-use Rattle.qasm_parse.specs.declared.symbol.Symbol.TheVariants as sym
-use Rattle.qasm_parse.specs.declared.part.Operator.{Operator}
-use Rattle.qasm_parse.specs.declared.part.Operator.TheVariants as op
-use Rattle.qasm_parse.specs.declared.part.Part.{Part}
-use Rattle.qasm_parse.specs.declared.part.Part.TheVariants as part
-use Rattle.qasm_parse.specs.Symbols.{Lexeme}
-use Rattle.qasm_parse.specs.Numbers.{HasNumber, IsExpression, Spells, AreSpelt}
-use Rattle.qasm_parse.specs.Expressions.{leaf_node, node_of, Derives, done, expands, takes, reads, writes, run}
+use Rattle.qasm_form.specs.declared.stmt.Node.{Node}
+use Rattle.qasm_form.specs.declared.symbol.Symbol.{Symbol}
+use Rattle.qasm_form.specs.declared.symbol.Symbol.TheVariants as sym
+use Rattle.qasm_form.specs.declared.part.Operator.{Operator}
+use Rattle.qasm_form.specs.declared.part.Operator.TheVariants as op
+use Rattle.qasm_form.specs.declared.part.Part.{Part}
+use Rattle.qasm_form.specs.declared.part.Part.TheVariants as part
+use Rattle.qasm_form.specs.Symbols.{Lexeme}
+use Rattle.qasm_form.specs.Numbers.{HasNumber, IsExpression, Spells, AreSpelt}
+use Rattle.qasm_form.specs.Expressions.{leaf_node, node_of, Derives, done, expands, takes, reads, writes}
+use Rattle.qasm_parse.specs.Running.{run}
 use Rattle.qasm_parse.proofs.PostfixLemmas.{some_same, run_derived, run_postfix}
 use Rattle.qasm_parse.proofs.SpeltLemmas.{spelt_front}
 

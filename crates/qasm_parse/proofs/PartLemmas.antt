@@ -1,23 +1,24 @@
 -- The readers of arguments, names, expressions and lists decide their languages.
 use Rattle.std.proofs.Common.{◌≡◌, ℕ, List, [], ◌∷◌, ◌++◌, length, Option, Some, None, Bool, true, false, refl, sym as flip, ◌∙◌, ap, subst, arith, length-append}
 use Rattle.std.proofs.lemmas.List.{append-nil}
-use Rattle.qasm_parse.specs.declared.symbol.Symbol.{Symbol}
-use Rattle.qasm_parse.specs.declared.symbol.Symbol.TheVariants as sym
-use Rattle.qasm_parse.specs.declared.stmt.Arg.{Arg}
-use Rattle.qasm_parse.specs.declared.stmt.Expr.{Expr}
-use Rattle.qasm_parse.specs.declared.part.Part.TheVariants as part
+use Rattle.qasm_form.specs.declared.symbol.Symbol.{Symbol}
+use Rattle.qasm_form.specs.declared.symbol.Symbol.TheVariants as sym
+use Rattle.qasm_form.specs.declared.stmt.Arg.{Arg}
+use Rattle.qasm_form.specs.declared.stmt.Expr.{Expr}
+use Rattle.qasm_form.specs.declared.part.Part.TheVariants as part
 use Rattle.qasm_parse.specs.declared.opening.Follow.{Follow}
 use Rattle.qasm_parse.specs.declared.opening.Follow.TheVariants.{Only, Until}
 use Rattle.qasm_parse.specs.declared.opening.Place.{Place}
 use Rattle.qasm_parse.specs.declared.opening.Place.TheVariants.{Top, InBody}
-use Rattle.qasm_parse.specs.Symbols.{Lexeme}
+use Rattle.qasm_form.specs.Symbols.{Lexeme}
 use Rattle.qasm_parse.specs.SameSymbols.{same_symbol}
-use Rattle.qasm_parse.specs.Openings.{follows}
-use Rattle.qasm_parse.specs.Languages.{Language, Value, Token, OneOf, Or, Listed, ◌>>=◌}
+use Rattle.qasm_parse.specs.Follows.{follows}
+use Rattle.qasm_form.specs.Languages.{Language, Value, Token, OneOf, Or, Listed, ◌>>=◌}
 use Rattle.qasm_parse.specs.Readers.{Reader, value, token, one_of, choose, repeated}
 use Rattle.qasm_parse.specs.Readers as read
-use Rattle.qasm_parse.specs.Expressions.{run, Derives}
-use Rattle.qasm_parse.specs.Grammar.{named, whole_arg, indexed_arg, Name, Whole, Indexed, Argument, Expression, ListedUntil, PerhapsListed}
+use Rattle.qasm_form.specs.Expressions.{Derives}
+use Rattle.qasm_parse.specs.Running.{run}
+use Rattle.qasm_form.specs.Grammar.{named, whole_arg, indexed_arg, Name, Whole, Indexed, Argument, Expression, ListedUntil, PerhapsListed}
 use Rattle.qasm_parse.specs.Readings.{is, name_then, plain_then, index_then, behind_name, arg_then, expr_then, one_more, nothing}
 use Rattle.qasm_parse.proofs.SymbolLemmas.{same_symbol-true, same_symbol-refl}
 use Rattle.qasm_parse.proofs.DecidesLemmas.{Decides, decides_token, decides_one_of, decides_value, decides_then, decides_or, FirstPasses, first_append}

@@ -1,15 +1,16 @@
 -- What expressions write is in postfix order.
 use Rattle.std.proofs.Common.{◌≡◌, ℕ, zero, suc, ◌++◌, List, [], ◌∷◌, Option, Some, None, Result, Ok, Bool, refl, sym as flip, ◌∙◌, ap, subst, append_assoc}
-use Rattle.qasm_parse.specs.declared.stmt.Node.{Node}
-use Rattle.qasm_parse.specs.declared.symbol.Symbol.{Symbol}
-use Rattle.qasm_parse.specs.declared.symbol.Symbol.TheVariants as sym
-use Rattle.qasm_parse.specs.declared.part.Operator.{Operator}
-use Rattle.qasm_parse.specs.declared.part.Operator.TheVariants as op
-use Rattle.qasm_parse.specs.declared.part.Part.{Part}
-use Rattle.qasm_parse.specs.declared.part.Part.TheVariants as part
-use Rattle.qasm_parse.specs.Symbols.{Lexeme}
-use Rattle.qasm_parse.specs.Postfix.{with_one, with_two, operands, IsPostfix}
-use Rattle.qasm_parse.specs.Expressions.{Produces, expr, plus, minus, no_terms, term, times, over, no_factors, negation, factor, power, exponent, no_exponent, leaf, paren, call, leaf_node, node_of, Derives, done, expands, takes, reads, writes, Step, Taken, Refused, Passed, advance, closed, stepped, run}
+use Rattle.qasm_form.specs.declared.stmt.Node.{Node}
+use Rattle.qasm_form.specs.declared.symbol.Symbol.{Symbol}
+use Rattle.qasm_form.specs.declared.symbol.Symbol.TheVariants as sym
+use Rattle.qasm_form.specs.declared.part.Operator.{Operator}
+use Rattle.qasm_form.specs.declared.part.Operator.TheVariants as op
+use Rattle.qasm_form.specs.declared.part.Part.{Part}
+use Rattle.qasm_form.specs.declared.part.Part.TheVariants as part
+use Rattle.qasm_form.specs.Symbols.{Lexeme}
+use Rattle.qasm_form.specs.Postfix.{with_one, with_two, operands, IsPostfix}
+use Rattle.qasm_form.specs.Expressions.{Produces, expr, plus, minus, no_terms, term, times, over, no_factors, negation, factor, power, exponent, no_exponent, leaf, paren, call, leaf_node, node_of, Derives, done, expands, takes, reads, writes}
+use Rattle.qasm_parse.specs.Running.{Step, Taken, Refused, Passed, advance, closed, stepped, run}
 use Rattle.qasm_parse.proofs.ExpressionLemmas.{InOrder}
 use Rattle.qasm_parse.proofs.StepLemmas.{StepMeans, advance_means}
 

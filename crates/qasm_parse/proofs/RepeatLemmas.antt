@@ -2,9 +2,9 @@
 use Rattle.std.proofs.Common.{◌≡◌, ℕ, zero, suc, ◌<◌, List, [], ◌∷◌, ◌++◌, length, Result, Ok, Err, Bool, true, false, cond, refl, sym, ◌∙◌, ap, subst, arith, append_assoc, length-append}
 use Rattle.std.proofs.lemmas.Bool.{false≢true}
 use Rattle.std.proofs.lemmas.List.{append-nil, append_cancel_left}
-use Rattle.qasm_parse.specs.Symbols.{Lexeme}
-use Rattle.qasm_parse.specs.Languages.{Language, Value}
-use Rattle.qasm_parse.specs.Languages as lang
+use Rattle.qasm_form.specs.Symbols.{Lexeme}
+use Rattle.qasm_form.specs.Languages.{Language, Value}
+use Rattle.qasm_form.specs.Languages as lang
 use Rattle.qasm_parse.specs.Readers.{Reader, prefixed, repeat, repeated}
 use Rattle.qasm_parse.proofs.DecidesLemmas.{Agrees, Stops, IsPrefixFree, Decides, agrees_same, then_agrees}
 

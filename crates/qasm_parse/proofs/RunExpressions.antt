@@ -1,15 +1,16 @@
 -- The reader of expressions decides them, with a token of a class behind.
 use Rattle.std.proofs.Common.{◌≡◌, ℕ, List, [], ◌∷◌, ◌++◌, length, Option, Some, None, Result, Ok, Err, Bool, ◌⊎◌, refl, sym as flip, ◌∙◌, ap, subst, inl, inr, ⊎_elim, arith, append_assoc, length-append}
 use Rattle.std.proofs.lemmas.List.{append_cancel_right}
-use Rattle.qasm_parse.specs.declared.stmt.Node.{Node}
-use Rattle.qasm_parse.specs.declared.stmt.Node.TheVariants as node
-use Rattle.qasm_parse.specs.declared.symbol.Symbol.{Symbol}
-use Rattle.qasm_parse.specs.declared.symbol.Symbol.TheVariants as sym
-use Rattle.qasm_parse.specs.declared.part.Part.{Part}
-use Rattle.qasm_parse.specs.declared.part.Part.TheVariants.{Expr, Terms, Term, Factors, Factor, Power, Exponent, Atom, Leaf, Token, Write}
-use Rattle.qasm_parse.specs.Symbols.{Lexeme}
-use Rattle.qasm_parse.specs.Languages.{Language}
-use Rattle.qasm_parse.specs.Expressions.{expr, no_terms, term, no_factors, factor, power, no_exponent, leaf, node_of, Derives, done, expands, takes, reads, writes, Step, Taken, Refused, Passed, advance, closed, stepped, run}
+use Rattle.qasm_form.specs.declared.stmt.Node.{Node}
+use Rattle.qasm_form.specs.declared.stmt.Node.TheVariants as node
+use Rattle.qasm_form.specs.declared.symbol.Symbol.{Symbol}
+use Rattle.qasm_form.specs.declared.symbol.Symbol.TheVariants as sym
+use Rattle.qasm_form.specs.declared.part.Part.{Part}
+use Rattle.qasm_form.specs.declared.part.Part.TheVariants.{Expr, Terms, Term, Factors, Factor, Power, Exponent, Atom, Leaf, Token, Write}
+use Rattle.qasm_form.specs.Symbols.{Lexeme}
+use Rattle.qasm_form.specs.Languages.{Language}
+use Rattle.qasm_form.specs.Expressions.{expr, no_terms, term, no_factors, factor, power, no_exponent, leaf, node_of, Derives, done, expands, takes, reads, writes}
+use Rattle.qasm_parse.specs.Running.{Step, Taken, Refused, Passed, advance, closed, stepped, run}
 use Rattle.qasm_parse.proofs.DecidesLemmas.{Agrees, GoesOn, Stops, IsPrefixFree, Decides}
 use Rattle.qasm_parse.proofs.ExpressionLemmas.{InOrder, IsOperator}
 use Rattle.qasm_parse.proofs.StepLemmas.{StepMeans, TokenTaken, Passes, advance_means}

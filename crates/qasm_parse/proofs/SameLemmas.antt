@@ -2,16 +2,16 @@
 use Rattle.std.proofs.Common.{◌≡◌, ℕ, List, [], ◌∷◌, ◌++◌, Some, None, Bool, true, false, cond, refl, sym, ◌∙◌, ap, subst, inl, inr, ⊎_elim, append_assoc}
 use Rattle.std.proofs.lemmas.Bool.{false≢true, cond_both}
 use Rattle.std.proofs.lemmas.List.{append-nil}
-use Rattle.qasm_parse.specs.declared.symbol.Symbol.{Symbol}
-use Rattle.qasm_parse.specs.declared.symbol.Symbol.TheVariants.{Comma}
+use Rattle.qasm_form.specs.declared.symbol.Symbol.{Symbol}
+use Rattle.qasm_form.specs.declared.symbol.Symbol.TheVariants.{Comma}
 use Rattle.qasm_parse.specs.declared.opening.Follow.{Follow}
 use Rattle.qasm_parse.specs.declared.opening.Follow.TheVariants.{Only, Until}
-use Rattle.qasm_parse.specs.Symbols.{Lexeme}
+use Rattle.qasm_form.specs.Symbols.{Lexeme}
 use Rattle.qasm_parse.specs.SameSymbols.{same_symbol}
-use Rattle.qasm_parse.specs.Openings.{follows}
-use Rattle.qasm_parse.specs.Languages.{Language, Value, Token, OneOf, Or, Listed, Many, ◌>>=◌}
+use Rattle.qasm_parse.specs.Follows.{follows}
+use Rattle.qasm_form.specs.Languages.{Language, Value, Token, OneOf, Or, Listed, Many, ◌>>=◌}
 use Rattle.qasm_parse.specs.Readers.{Reader}
-use Rattle.qasm_parse.specs.Grammar.{ListedUntil}
+use Rattle.qasm_form.specs.Grammar.{ListedUntil}
 use Rattle.qasm_parse.proofs.SymbolLemmas.{same_symbol-true, same_symbol-refl}
 use Rattle.qasm_parse.proofs.DecidesLemmas.{Decides, decides_same}
 use Rattle.qasm_parse.proofs.RepeatLemmas.{Repeat, last, more}

@@ -1,7 +1,7 @@
 -- Where the numbers among some tokens are spelt as such, they are among the tokens that are left.
 use Rattle.std.proofs.Common.{ℕ, zero, suc, List, [], ◌∷◌, ◌++◌, drop}
-use Rattle.qasm_parse.specs.Symbols.{Lexeme}
-use Rattle.qasm_parse.specs.Numbers.{AreSpelt}
+use Rattle.qasm_form.specs.Symbols.{Lexeme}
+use Rattle.qasm_form.specs.Numbers.{AreSpelt}
 
 pub spelt_front : (front rest : List Lexeme) → AreSpelt (front ++ rest) → AreSpelt front
 spelt_front [] rest spelt = tt

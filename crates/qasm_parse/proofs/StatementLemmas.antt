@@ -1,31 +1,33 @@
 -- The reader of statements decides the grammar.
 use Rattle.std.proofs.Common.{◌≡◌, ℕ, ◌<◌, List, [], ◌∷◌, length, Some, None, Bool, true, false, refl, subst, inl, inr, arith}
-use Rattle.qasm_parse.specs.declared.symbol.Symbol.{Symbol}
-use Rattle.qasm_parse.specs.declared.symbol.Symbol.TheVariants as sym
-use Rattle.qasm_parse.specs.declared.stmt.Arg.{Arg}
-use Rattle.qasm_parse.specs.declared.stmt.BodyOp.{BodyOp}
-use Rattle.qasm_parse.specs.declared.stmt.Expr.{Expr}
-use Rattle.qasm_parse.specs.declared.stmt.Named.{Named}
-use Rattle.qasm_parse.specs.declared.stmt.Stmt.{Stmt}
-use Rattle.qasm_parse.specs.declared.stmt.Stmt.TheVariants as stmt
-use Rattle.qasm_parse.specs.declared.part.Part.TheVariants as part
-use Rattle.qasm_parse.specs.declared.opening.Verb.{Verb}
-use Rattle.qasm_parse.specs.declared.opening.Verb.TheVariants as verb
-use Rattle.qasm_parse.specs.declared.opening.BodyVerb.{BodyVerb}
-use Rattle.qasm_parse.specs.declared.opening.BodyVerb.TheVariants as body
-use Rattle.qasm_parse.specs.declared.opening.Opening.{Opening}
-use Rattle.qasm_parse.specs.declared.opening.Opening.TheVariants as opens
+use Rattle.qasm_form.specs.declared.symbol.Symbol.{Symbol}
+use Rattle.qasm_form.specs.declared.symbol.Symbol.TheVariants as sym
+use Rattle.qasm_form.specs.declared.stmt.Arg.{Arg}
+use Rattle.qasm_form.specs.declared.stmt.BodyOp.{BodyOp}
+use Rattle.qasm_form.specs.declared.stmt.Expr.{Expr}
+use Rattle.qasm_form.specs.declared.stmt.Named.{Named}
+use Rattle.qasm_form.specs.declared.stmt.Stmt.{Stmt}
+use Rattle.qasm_form.specs.declared.stmt.Stmt.TheVariants as stmt
+use Rattle.qasm_form.specs.declared.part.Part.TheVariants as part
+use Rattle.qasm_form.specs.declared.opening.Verb.{Verb}
+use Rattle.qasm_form.specs.declared.opening.Verb.TheVariants as verb
+use Rattle.qasm_form.specs.declared.opening.BodyVerb.{BodyVerb}
+use Rattle.qasm_form.specs.declared.opening.BodyVerb.TheVariants as body
+use Rattle.qasm_form.specs.declared.opening.Opening.{Opening}
+use Rattle.qasm_form.specs.declared.opening.Opening.TheVariants as opens
 use Rattle.qasm_parse.specs.declared.opening.Follow.TheVariants.{Only, Until}
 use Rattle.qasm_parse.specs.declared.opening.Place.{Place}
 use Rattle.qasm_parse.specs.declared.opening.Place.TheVariants.{Top, InBody}
-use Rattle.qasm_parse.specs.Symbols.{Lexeme}
+use Rattle.qasm_form.specs.Symbols.{Lexeme}
 use Rattle.qasm_parse.specs.SameSymbols.{same_symbol}
-use Rattle.qasm_parse.specs.Openings.{verb_of, body_verb_of, opening_of, is_number, follows}
-use Rattle.qasm_parse.specs.Languages.{Language, Value, Token, OneOf, Listed, ◌>>=◌}
+use Rattle.qasm_form.specs.Openings.{verb_of, body_verb_of, opening_of, is_number}
+use Rattle.qasm_parse.specs.Follows.{follows}
+use Rattle.qasm_form.specs.Languages.{Language, Value, Token, OneOf, Listed, ◌>>=◌}
 use Rattle.qasm_parse.specs.Readers.{Reader, value, token, one_of, choose, repeated}
 use Rattle.qasm_parse.specs.Readers as read
-use Rattle.qasm_parse.specs.Expressions.{Derives, advance}
-use Rattle.qasm_parse.specs.Grammar.{named, whole_arg, indexed_arg, operation, number_of, unquoted, Name, Argument, Expression, ListedUntil, PerhapsListed, GateU, GateCx, Arguments, Call, AfterVerb, AfterBodyVerb, BodyOperation, Body, ArgumentNames, Signature, Register, AfterOpening, Statement, Version}
+use Rattle.qasm_form.specs.Expressions.{Derives}
+use Rattle.qasm_parse.specs.Running.{advance}
+use Rattle.qasm_form.specs.Grammar.{named, whole_arg, indexed_arg, operation, number_of, unquoted, Name, Argument, Expression, ListedUntil, PerhapsListed, GateU, GateCx, Arguments, Call, AfterVerb, AfterBodyVerb, BodyOperation, Body, ArgumentNames, Signature, Register, AfterOpening, Statement, Version}
 use Rattle.qasm_parse.specs.Readings.{is, name_then, arg_then, expr_then, names_until, args_until, exprs_until, perhaps_names, perhaps_exprs, gate_u, gate_cx, arguments, with_angles, call, as_call, measure, reset, after_verb, after_body_verb, body_operation, last_item, next_item, body_item, body_ops, argument_names, with_params, signature, register, include, gate, opaque_gate, barrier, condition, conditional, after_opening, statement_at, version_at}
 use Rattle.qasm_parse.proofs.SymbolLemmas.{same_symbol-true}
 use Rattle.qasm_parse.proofs.DecidesLemmas.{Decides, decides_token, decides_one_of, decides_value, decides_then, decides_or, FirstPasses}

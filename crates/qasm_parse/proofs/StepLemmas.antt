@@ -1,19 +1,20 @@
 -- A step over a token means what the productions say.
 use Rattle.std.proofs.Common.{◌≡◌, List, [], ◌∷◌, ◌++◌, Option, Some, None, true, refl, sym as flip, ◌∙◌, ap, subst, ⊎_elim}
 use Rattle.std.proofs.lemmas.Bool.{false≢true, cond_both}
-use Rattle.qasm_parse.specs.declared.stmt.Function.{Function}
-use Rattle.qasm_parse.specs.declared.stmt.Node.{Node}
-use Rattle.qasm_parse.specs.declared.symbol.Symbol.{Symbol}
-use Rattle.qasm_parse.specs.declared.symbol.Symbol.TheVariants as sym
-use Rattle.qasm_parse.specs.declared.part.Operator.{Operator}
-use Rattle.qasm_parse.specs.declared.part.Operator.TheVariants as op
-use Rattle.qasm_parse.specs.declared.part.Part.{Part}
-use Rattle.qasm_parse.specs.declared.part.Part.TheVariants.{Expr, Terms, Term, Factors, Factor, Power, Exponent, Atom, Leaf, Token, Write}
+use Rattle.qasm_form.specs.declared.stmt.Function.{Function}
+use Rattle.qasm_form.specs.declared.stmt.Node.{Node}
+use Rattle.qasm_form.specs.declared.symbol.Symbol.{Symbol}
+use Rattle.qasm_form.specs.declared.symbol.Symbol.TheVariants as sym
+use Rattle.qasm_form.specs.declared.part.Operator.{Operator}
+use Rattle.qasm_form.specs.declared.part.Operator.TheVariants as op
+use Rattle.qasm_form.specs.declared.part.Part.{Part}
+use Rattle.qasm_form.specs.declared.part.Part.TheVariants.{Expr, Terms, Term, Factors, Factor, Power, Exponent, Atom, Leaf, Token, Write}
 use Rattle.qasm_parse.specs.declared.part.AtomStart.{AtomStart}
 use Rattle.qasm_parse.specs.declared.part.AtomStart.TheVariants as start
-use Rattle.qasm_parse.specs.Symbols.{Lexeme}
+use Rattle.qasm_form.specs.Symbols.{Lexeme}
 use Rattle.qasm_parse.specs.SameSymbols.{same_symbol}
-use Rattle.qasm_parse.specs.Expressions.{function_symbol, expr, plus, minus, no_terms, term, times, over, no_factors, negation, factor, power, exponent, no_exponent, leaf, paren, call, leaf_of, node_of, Derives, done, expands, takes, reads, writes, atom_start, sum_of, product_of, Step, Taken, Refused, Passed, wrote, leaf_step, atom_step, factor_step, sign_step, advance}
+use Rattle.qasm_form.specs.Expressions.{function_symbol, expr, plus, minus, no_terms, term, times, over, no_factors, negation, factor, power, exponent, no_exponent, leaf, paren, call, leaf_of, node_of, Derives, done, expands, takes, reads, writes}
+use Rattle.qasm_parse.specs.Running.{atom_start, sum_of, product_of, Step, Taken, Refused, Passed, wrote, leaf_step, atom_step, factor_step, sign_step, advance}
 use Rattle.qasm_parse.proofs.SymbolLemmas.{same_symbol-true, same_symbol-refl}
 use Rattle.qasm_parse.proofs.ExpressionLemmas.{AfterTerms, AfterFactors, AfterPower, InOrder, IsOperator, IsProduct, inv_nil, inv_token, inv_token_nil, inv_leaf, inv_leaf_nil, inv_write, inv_expr, inv_term, inv_power, inv_terms, inv_factors, inv_factor, inv_exponent, inv_atom, atom_not_empty, factor_not_empty, sum_cases, product_cases, leaf_start, paren_start, call_start, start_call, after_terms_block, after_factors_block, after_power_block}
 

@@ -1,8 +1,8 @@
 -- Two symbols are equal where their places are.
 use Rattle.std.proofs.Common.{◌≡◌, true, List, [], ◌∷◌, get_or, refl, sym, ◌∙◌, ap}
 use Rattle.std.proofs.lemmas.Bool.{eqb-true, eq-eqb}
-use Rattle.qasm_parse.specs.declared.symbol.Symbol.{Symbol}
-use Rattle.qasm_parse.specs.declared.symbol.Symbol.TheVariants.{Identifier, Whole, Real, Text, Header, GateU, GateCx, Include, Qreg, Creg, Gate, Opaque, Measure, Reset, Barrier, If, Pi, Sin, Cos, Tan, Exp, Ln, Sqrt, Semicolon, Comma, OpenParen, CloseParen, OpenBrace, CloseBrace, OpenBracket, CloseBracket, Plus, Minus, Times, Over, Power, Arrow, Equals}
+use Rattle.qasm_form.specs.declared.symbol.Symbol.{Symbol}
+use Rattle.qasm_form.specs.declared.symbol.Symbol.TheVariants.{Identifier, Whole, Real, Text, Header, GateU, GateCx, Include, Qreg, Creg, Gate, Opaque, Measure, Reset, Barrier, If, Pi, Sin, Cos, Tan, Exp, Ln, Sqrt, Semicolon, Comma, OpenParen, CloseParen, OpenBrace, CloseBrace, OpenBracket, CloseBracket, Plus, Minus, Times, Over, Power, Arrow, Equals}
 use Rattle.qasm_parse.specs.SameSymbols.{place_of, same_symbol}
 
 abbrev symbols : List Symbol

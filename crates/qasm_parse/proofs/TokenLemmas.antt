@@ -11,10 +11,10 @@ use Rattle.qasm_lex.specs.Forms.{IsDigits, IsWhole, IsPiece}
 use Rattle.qasm_lex.specs.Lexed.{Lexed}
 use Rattle.qasm_lex.specs.Cuts.{Piece, IsLongest, AreLongest, token_of, tokens_of, AreTokensOf}
 use Rattle.qasm_lex.specs.Cuts as cuts
-use Rattle.qasm_parse.specs.declared.symbol.Symbol.{Symbol}
-use Rattle.qasm_parse.specs.declared.symbol.Symbol.TheVariants as sym
-use Rattle.qasm_parse.specs.Symbols.{symbol_in, reserved_words, capital_words, sign_words, word_symbol, capital_symbol, sign_symbol, symbol_of, lexemes_of}
-use Rattle.qasm_parse.specs.Numbers.{IsNumber, Spells, AreSpelt}
+use Rattle.qasm_form.specs.declared.symbol.Symbol.{Symbol}
+use Rattle.qasm_form.specs.declared.symbol.Symbol.TheVariants as sym
+use Rattle.qasm_form.specs.Symbols.{symbol_in, reserved_words, capital_words, sign_words, word_symbol, capital_symbol, sign_symbol, symbol_of, lexemes_of}
+use Rattle.qasm_form.specs.Numbers.{IsNumber, Spells, AreSpelt}
 
 whole_number : (text after : List ℕ) → IsWhole text after → IsNumber text
 whole_number text after (inl w) = inl (omega (arith, ap length w.2), w.4)

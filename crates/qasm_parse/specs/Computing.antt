@@ -3,9 +3,9 @@ use Rattle.std.specs.Prelude.{ℕ, zero, suc, ◌+◌, List, [], ◌∷◌, ◌+
 use Rattle.qasm_lex.specs.Cuts.{Piece}
 use Rattle.qasm_lex.specs.Cutting.{cut}
 use Rattle.qasm_lex.specs.declared.token.TokenKind.{TokenKind}
-use Rattle.qasm_parse.specs.declared.stmt.Stmt.{Stmt}
-use Rattle.qasm_parse.specs.Statements.{reading_at}
-use Rattle.qasm_parse.specs.Symbols.{Lexeme, symbol_of}
+use Rattle.qasm_form.specs.declared.stmt.Stmt.{Stmt}
+use Rattle.qasm_parse.specs.ReadAnswers.{reading_at}
+use Rattle.qasm_form.specs.Symbols.{Lexeme, symbol_of}
 
 -- the token of a piece with a kind, as the grammar sees it; a piece without a kind gives none
 abbrev pub lexeme_at : Option TokenKind → List ℕ → ℕ → List Lexeme

@@ -2,9 +2,9 @@
 use Rattle.std.specs.Prelude.{◌≡◌, ℕ, List, Result, Ok, Err}
 use Rattle.std.specs.Borrow.{Bor}
 use Rattle.qasm_lex.specs.declared.token.Token.{Token}
-use Rattle.qasm_parse.specs.declared.stmt.SyntaxFault.{SyntaxFault}
-use Rattle.qasm_parse.specs.declared.stmt.SyntaxFault.TheVariants.{Memory, At}
-use Rattle.qasm_parse.specs.Symbols.{Lexeme, lexeme_of, lexemes_of}
+use Rattle.qasm_parse.specs.declared.fault.SyntaxFault.{SyntaxFault}
+use Rattle.qasm_parse.specs.declared.fault.SyntaxFault.TheVariants.{Memory, At}
+use Rattle.qasm_form.specs.Symbols.{Lexeme, lexeme_of, lexemes_of}
 
 abbrev pub Fails : {Y : Type 0} → SyntaxFault → Result Y ℕ → Type 0
 Fails Memory read = Unit {0}

@@ -1,17 +1,17 @@
 -- Inside: what a token does to an expression that is being read.
 use Rattle.std.specs.Prelude.{◌≡◌, List, [], ◌∷◌, ◌++◌, reverse, Option, Some, None, true, false}
-use Rattle.qasm_parse.specs.declared.stmt.Node.{Node}
-use Rattle.qasm_parse.specs.declared.part.Part.{Part}
+use Rattle.qasm_form.specs.declared.stmt.Node.{Node}
+use Rattle.qasm_form.specs.declared.part.Part.{Part}
 use Rattle.qasm_parse.specs.declared.expr.Move.{Move}
 use Rattle.qasm_parse.specs.declared.expr.Move.TheVariants as move
-use Rattle.qasm_parse.specs.declared.part.Part.TheVariants.{Factor, Write}
-use Rattle.qasm_parse.specs.declared.part.Operator.{Operator}
-use Rattle.qasm_parse.specs.declared.part.Operator.TheVariants as op
-use Rattle.qasm_parse.specs.declared.symbol.Symbol.{Symbol}
-use Rattle.qasm_parse.specs.declared.symbol.Symbol.TheVariants as sym
+use Rattle.qasm_form.specs.declared.part.Part.TheVariants.{Factor, Write}
+use Rattle.qasm_form.specs.declared.part.Operator.{Operator}
+use Rattle.qasm_form.specs.declared.part.Operator.TheVariants as op
+use Rattle.qasm_form.specs.declared.symbol.Symbol.{Symbol}
+use Rattle.qasm_form.specs.declared.symbol.Symbol.TheVariants as sym
 use Rattle.qasm_parse.specs.SameSymbols.{same_symbol}
-use Rattle.qasm_parse.specs.Symbols.{Lexeme}
-use Rattle.qasm_parse.specs.Expressions.{Step, Taken, Refused, Passed, wrote, advance}
+use Rattle.qasm_form.specs.Symbols.{Lexeme}
+use Rattle.qasm_parse.specs.Running.{Step, Taken, Refused, Passed, wrote, advance}
 
 -- a move is this step: it leaves these parts, and adds the nodes to those that were there
 abbrev pub Moves : Move → List Part → List Node → List Node → Step → Type 0

@@ -1,13 +1,8 @@
 -- Inside: readers, as functions on lists: a value and the tokens after it, or the offset of a fault.
 use Rattle.std.specs.Prelude.{ℕ, suc, zero, List, [], ◌∷◌, ◌++◌, length, Option, Some, None, Result, Ok, Err, Bool, if◌then◌else◌}
-use Rattle.qasm_parse.specs.declared.symbol.Symbol.{Symbol}
-use Rattle.qasm_parse.specs.Symbols.{Lexeme}
+use Rattle.qasm_form.specs.declared.symbol.Symbol.{Symbol}
+use Rattle.qasm_form.specs.Symbols.{Lexeme}
 use Rattle.qasm_parse.specs.SameSymbols.{same_symbol}
-
--- the offset of the first token, or that of the source's end
-abbrev pub offset_of : ℕ → List Lexeme → ℕ
-offset_of end [] = end
-offset_of end (x ∷ rest) = x.at
 
 abbrev pub Reader : Type 0 → Type 0
 Reader V = List Lexeme → Result (V × List Lexeme) ℕ

@@ -1,30 +1,31 @@
 -- Inside: how each part of the grammar is read, as a function on lists of tokens.
 use Rattle.std.specs.Prelude.{ℕ, List, [], ◌∷◌, Bool, true, false}
-use Rattle.qasm_parse.specs.declared.symbol.Symbol.{Symbol}
-use Rattle.qasm_parse.specs.declared.symbol.Symbol.TheVariants as sym
-use Rattle.qasm_parse.specs.declared.stmt.Arg.{Arg}
-use Rattle.qasm_parse.specs.declared.stmt.BodyOp.{BodyOp}
-use Rattle.qasm_parse.specs.declared.stmt.Expr.{Expr}
-use Rattle.qasm_parse.specs.declared.stmt.Named.{Named}
-use Rattle.qasm_parse.specs.declared.stmt.Stmt.{Stmt}
-use Rattle.qasm_parse.specs.declared.stmt.Stmt.TheVariants as stmt
-use Rattle.qasm_parse.specs.declared.part.Part.TheVariants as part
-use Rattle.qasm_parse.specs.declared.opening.Verb.{Verb}
-use Rattle.qasm_parse.specs.declared.opening.Verb.TheVariants as verb
-use Rattle.qasm_parse.specs.declared.opening.BodyVerb.{BodyVerb}
-use Rattle.qasm_parse.specs.declared.opening.BodyVerb.TheVariants as body
-use Rattle.qasm_parse.specs.declared.opening.Opening.{Opening}
-use Rattle.qasm_parse.specs.declared.opening.Opening.TheVariants as opens
+use Rattle.qasm_form.specs.declared.symbol.Symbol.{Symbol}
+use Rattle.qasm_form.specs.declared.symbol.Symbol.TheVariants as sym
+use Rattle.qasm_form.specs.declared.stmt.Arg.{Arg}
+use Rattle.qasm_form.specs.declared.stmt.BodyOp.{BodyOp}
+use Rattle.qasm_form.specs.declared.stmt.Expr.{Expr}
+use Rattle.qasm_form.specs.declared.stmt.Named.{Named}
+use Rattle.qasm_form.specs.declared.stmt.Stmt.{Stmt}
+use Rattle.qasm_form.specs.declared.stmt.Stmt.TheVariants as stmt
+use Rattle.qasm_form.specs.declared.part.Part.TheVariants as part
+use Rattle.qasm_form.specs.declared.opening.Verb.{Verb}
+use Rattle.qasm_form.specs.declared.opening.Verb.TheVariants as verb
+use Rattle.qasm_form.specs.declared.opening.BodyVerb.{BodyVerb}
+use Rattle.qasm_form.specs.declared.opening.BodyVerb.TheVariants as body
+use Rattle.qasm_form.specs.declared.opening.Opening.{Opening}
+use Rattle.qasm_form.specs.declared.opening.Opening.TheVariants as opens
 use Rattle.qasm_parse.specs.declared.opening.Follow.{Follow}
 use Rattle.qasm_parse.specs.declared.opening.Follow.TheVariants.{Only, Until}
 use Rattle.qasm_parse.specs.declared.opening.Place.{Place}
 use Rattle.qasm_parse.specs.declared.opening.Place.TheVariants.{Top, InBody}
-use Rattle.qasm_parse.specs.Symbols.{Lexeme}
+use Rattle.qasm_form.specs.Symbols.{Lexeme}
 use Rattle.qasm_parse.specs.SameSymbols.{same_symbol}
 use Rattle.qasm_parse.specs.Readers.{Reader, value, token, one_of, choose, repeated, ◌>>=◌}
-use Rattle.qasm_parse.specs.Expressions.{run}
-use Rattle.qasm_parse.specs.Openings.{verb_of, body_verb_of, opening_of, is_number, follows}
-use Rattle.qasm_parse.specs.Grammar.{number_of, unquoted, named, whole_arg, indexed_arg, operation}
+use Rattle.qasm_parse.specs.Running.{run}
+use Rattle.qasm_form.specs.Openings.{verb_of, body_verb_of, opening_of, is_number}
+use Rattle.qasm_parse.specs.Follows.{follows}
+use Rattle.qasm_form.specs.Grammar.{number_of, unquoted, named, whole_arg, indexed_arg, operation}
 
 abbrev pub is : Symbol → Symbol → Bool
 is expected symbol = same_symbol symbol expected

@@ -2,15 +2,16 @@
 
 ghost use Rattle.std.specs.Prelude.{◌≡◌, [], ◌∷◌, MatchOption, IfOk, IfErr};
 ghost use Rattle.qasm_parse.specs.Gives.{Gives, seen, seen_one, seen_token};
-ghost use Rattle.qasm_parse.specs.Openings.{body_verb_of, follows, is_number, opening_of, verb_of};
+ghost use Rattle.qasm_form.specs.Openings.{body_verb_of, is_number, opening_of, verb_of};
+ghost use Rattle.qasm_parse.specs.Follows.{follows};
 ghost use Rattle.qasm_parse.specs.Readers.{first, one_of, token};
-ghost use Rattle.qasm_parse.specs.Symbols.{lexemes_of, symbol_of, token_text};
+ghost use Rattle.qasm_form.specs.Symbols.{lexemes_of, symbol_of, token_text};
 
-use crate::opening::{
-    BodyVerb, Follow, Opening, Verb, body_verb_of, follows, is_number, opening_of, verb_of,
-};
-use crate::stmt::SyntaxFault;
-use crate::symbol::{Symbol, same_symbol, symbol_of};
+use crate::fault::SyntaxFault;
+use crate::opening::{Follow, body_verb_of, follows, is_number, opening_of, verb_of};
+use crate::symbol::{same_symbol, symbol_of};
+use qasm_form::Symbol;
+use qasm_form::opening::{BodyVerb, Opening, Verb};
 use qasm_lex::Token;
 use std::alloc::Global;
 use zac_gates::Bytes;

@@ -3,7 +3,7 @@
 ghost use Rattle.std.specs.Prelude.{◌≡◌, Some};
 ghost use Rattle.qasm_parse.specs.Bodies.{item_of};
 ghost use Rattle.qasm_parse.specs.Gives.{Gives, seen};
-ghost use Rattle.qasm_parse.specs.Numbers.{AreSpelt};
+ghost use Rattle.qasm_form.specs.Numbers.{AreSpelt};
 ghost use Rattle.qasm_parse.specs.Readings.{
   argument_names,
   body_item,
@@ -14,14 +14,14 @@ ghost use Rattle.qasm_parse.specs.Readings.{
   signature,
   with_params,
 };
-ghost use Rattle.qasm_parse.specs.Symbols.{lexeme_of, lexemes_of};
+ghost use Rattle.qasm_form.specs.Symbols.{lexeme_of, lexemes_of};
 
 use crate::cursor::{Read, first, symbol_at, take, text, word};
 use crate::item::number_of;
 use crate::lists::{names_until, perhaps_names};
 use crate::operation::body_operation;
-use crate::stmt::{BodyOp, Named, Stmt};
-use crate::symbol::{Symbol, same_symbol};
+use crate::symbol::same_symbol;
+use qasm_form::{BodyOp, Named, Stmt, Symbol};
 use qasm_lex::Token;
 use std::alloc::Global;
 use zac_gates::List;

@@ -1,28 +1,22 @@
 //! Expressions, read with a stack of the parts that are still to be read, so that nesting has no limit.
 
 ghost use Rattle.std.specs.Prelude.{◌≡◌, [], ◌∷◌, ◌++◌, reverse, IfOk, OnOk, IfErr, MatchOption};
-ghost use Rattle.qasm_parse.specs.Expressions.{
-  advance,
-  atom_start,
-  atom_step,
-  factor_step,
-  leaf_of,
-  leaf_step,
-  node_of,
-  run,
-};
+ghost use Rattle.qasm_form.specs.Expressions.{leaf_of, node_of};
+ghost use Rattle.qasm_parse.specs.Running.{advance, atom_start, atom_step, factor_step, leaf_step, run};
 ghost use Rattle.qasm_parse.specs.Gives.{Gives, seen};
 ghost use Rattle.qasm_parse.specs.Moves.{Goes, IsRaised, IsSigned, Moves};
-ghost use Rattle.qasm_parse.specs.Openings.{follows};
-ghost use Rattle.qasm_parse.specs.Numbers.{AreSpelt};
+ghost use Rattle.qasm_parse.specs.Follows.{follows};
+ghost use Rattle.qasm_form.specs.Numbers.{AreSpelt};
 ghost use Rattle.qasm_parse.specs.Readings.{expr_then};
-ghost use Rattle.qasm_parse.specs.Symbols.{lexeme_of, lexemes_of};
+ghost use Rattle.qasm_form.specs.Symbols.{lexeme_of, lexemes_of};
 
 use crate::cursor::{Read, first, symbol_at, word};
+use crate::fault::SyntaxFault;
 use crate::opening::{Follow, follows};
-use crate::part::{AtomStart, Operator, Part, atom_start, product_of, sum_of};
-use crate::stmt::{Expr, Function, Node, SyntaxFault};
-use crate::symbol::{Symbol, same_symbol};
+use crate::part::{AtomStart, atom_start, product_of, sum_of};
+use crate::symbol::same_symbol;
+use qasm_form::part::{Operator, Part};
+use qasm_form::{Expr, Function, Node, Symbol};
 use qasm_lex::Token;
 use std::alloc::Global;
 use zac_gates::List;

@@ -2,14 +2,14 @@
 
 ghost use Rattle.std.specs.Prelude.{◌≡◌};
 ghost use Rattle.qasm_parse.specs.Gives.{Gives, seen};
-ghost use Rattle.qasm_parse.specs.Grammar.{number_of};
+ghost use Rattle.qasm_form.specs.Grammar.{number_of};
 ghost use Rattle.qasm_parse.specs.Readings.{arg_then, behind_name, index_then, name_then, plain_then};
-ghost use Rattle.qasm_parse.specs.Symbols.{lexeme_of, lexemes_of};
+ghost use Rattle.qasm_form.specs.Symbols.{lexeme_of, lexemes_of};
 
 use crate::cursor::{Read, first, follow, symbol_at, take, text, word};
 use crate::opening::{Follow, Place};
-use crate::stmt::{Arg, Named};
-use crate::symbol::{Symbol, same_symbol};
+use crate::symbol::same_symbol;
+use qasm_form::{Arg, Named, Symbol};
 use qasm_lex::Token;
 use std::alloc::Global;
 

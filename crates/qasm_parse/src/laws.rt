@@ -1,18 +1,13 @@
-//! What the definitions say of statements and of an expression's numbers, as laws. Each holds of every list of tokens, of
-//! every text or of every list of nodes.
+//! What the definitions say of statements, as laws. Each holds of every list of tokens, or of every source.
 
-ghost use Rattle.std.specs.Prelude.{◌≡◌, ◌⊎◌, ℕ, ◌<◌, List, Some, length, slice_get, IsTrue};
-ghost use Rattle.std.specs.List.{AllByRecursion, list_all};
-ghost use Rattle.zac_gates.specs.Angle.{is_angle_byte};
+ghost use Rattle.std.specs.Prelude.{◌≡◌, ◌⊎◌, ℕ, List, Some, length};
 ghost use Rattle.qasm_lex.specs.Cuts.{AreTokensOf};
 ghost use Rattle.qasm_lex.specs.Lexed.{Lexed};
 ghost use Rattle.qasm_lex.specs.declared.token.Token.{Token};
 ghost use Rattle.qasm_parse.specs.Computing.{computed_statements};
-ghost use Rattle.qasm_parse.specs.declared.stmt.Node.{Node};
-ghost use Rattle.qasm_parse.specs.declared.stmt.Stmt.{Stmt};
-ghost use Rattle.qasm_parse.specs.Numbers.{HasNumber, IsNumber};
-ghost use Rattle.qasm_parse.specs.Statements.{FallInto, IsStatement, IsSyntaxFault};
-ghost use Rattle.qasm_parse.specs.Symbols.{Lexeme, lexemes_of};
+ghost use Rattle.qasm_form.specs.declared.stmt.Stmt.{Stmt};
+ghost use Rattle.qasm_form.specs.Statements.{FallInto, IsStatement, IsSyntaxFault};
+ghost use Rattle.qasm_form.specs.Symbols.{Lexeme, lexemes_of};
 
 use qasm_lex::laws::cut_gives_tokens;
 
@@ -37,17 +32,6 @@ pub fn tokens_fall_in_one_way()
 /// The grammar sees as many tokens as the source has.
 pub fn each_token_is_seen()
     ensures { (source : List ℕ) (tokens : List Token) → length (lexemes_of source tokens) ≡ length tokens }
-{}
-
-/// The text of a number has a byte at least, and each of its bytes may stand in the text of an angle.
-pub fn numbers_have_angle_bytes()
-    ensures { (text : List ℕ) → IsNumber text → (0 < length text) × IsTrue (list_all is_angle_byte text) }
-{}
-
-/// Where the text of each number node is a number, that of the node at any place is one.
-pub fn each_node_has_its_number()
-    ensures { (nodes : List Node) (k : ℕ) (node : Node) → AllByRecursion HasNumber nodes
-        → slice_get nodes k ≡ Some node → HasNumber node }
 {}
 
 /// The statements that a proof computes of a source are those into which its tokens fall.

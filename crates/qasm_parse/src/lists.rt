@@ -2,7 +2,7 @@
 
 ghost use Rattle.std.specs.Prelude.{◌≡◌};
 ghost use Rattle.qasm_parse.specs.Gives.{Gives, seen};
-ghost use Rattle.qasm_parse.specs.Numbers.{AreSpelt};
+ghost use Rattle.qasm_form.specs.Numbers.{AreSpelt};
 ghost use Rattle.qasm_parse.specs.Readings.{
   args_until,
   exprs_until,
@@ -11,14 +11,14 @@ ghost use Rattle.qasm_parse.specs.Readings.{
   perhaps_exprs,
   perhaps_names,
 };
-ghost use Rattle.qasm_parse.specs.Symbols.{lexemes_of};
+ghost use Rattle.qasm_form.specs.Symbols.{lexemes_of};
 
 use crate::cursor::{Read, first, symbol_at, take};
 use crate::expr::expr_then;
 use crate::item::{arg_then, name_then};
 use crate::opening::{Follow, Place};
-use crate::stmt::{Arg, Expr, Named};
-use crate::symbol::{Symbol, same_symbol};
+use crate::symbol::same_symbol;
+use qasm_form::{Arg, Expr, Named, Symbol};
 use qasm_lex::Token;
 use std::alloc::Global;
 use zac_gates::List;

@@ -1,50 +1,12 @@
-//! What a statement or a call begins with.
+//! What a symbol begins, and what may stand behind an item.
 
 ghost use Rattle.std.specs.Prelude.{◌≡◌};
-ghost use Rattle.qasm_parse.specs.Openings.{body_verb_of, follows, is_number, opening_of, verb_of};
+ghost use Rattle.qasm_form.specs.Openings.{body_verb_of, is_number, opening_of, verb_of};
+ghost use Rattle.qasm_parse.specs.Follows.{follows};
 
-use crate::symbol::{Symbol, same_symbol};
-
-/// What is done to qubits at the top.
-#[derive(Clone, Copy)]
-pub enum Verb {
-    /// `U`.
-    GateU,
-    /// `CX`.
-    GateCx,
-    /// A gate's name.
-    Call,
-    /// `measure`.
-    Measure,
-    /// `reset`.
-    Reset,
-}
-
-/// What is done to qubits in a body.
-#[derive(Clone, Copy)]
-pub enum BodyVerb {
-    /// `U`.
-    GateU,
-    /// `CX`.
-    GateCx,
-    /// A gate's name.
-    Call,
-    /// `barrier`.
-    Barrier,
-}
-
-/// What a statement begins with.
-#[derive(Clone, Copy)]
-pub enum Opening {
-    Include,
-    Qreg,
-    Creg,
-    Gate,
-    Opaque,
-    Barrier,
-    If,
-    Verb(Verb),
-}
+use crate::symbol::same_symbol;
+use qasm_form::Symbol;
+use qasm_form::opening::{BodyVerb, Opening, Verb};
 
 /// What is done, where a symbol begins it.
 pub(crate) fn verb_of(symbol: Symbol) -> Option<Verb>

@@ -2,8 +2,8 @@
 
 ghost use Rattle.std.specs.Prelude.{◌≡◌, [], ◌∷◌, IfOk, IfErr};
 ghost use Rattle.qasm_parse.specs.Gives.{Gives, seen};
-ghost use Rattle.qasm_parse.specs.Grammar.{operation};
-ghost use Rattle.qasm_parse.specs.Numbers.{AreSpelt};
+ghost use Rattle.qasm_form.specs.Grammar.{operation};
+ghost use Rattle.qasm_form.specs.Numbers.{AreSpelt};
 ghost use Rattle.qasm_parse.specs.Readings.{
   after_body_verb,
   after_verb,
@@ -17,14 +17,16 @@ ghost use Rattle.qasm_parse.specs.Readings.{
   reset,
   with_angles,
 };
-ghost use Rattle.qasm_parse.specs.Symbols.{lexeme_of, lexemes_of};
+ghost use Rattle.qasm_form.specs.Symbols.{lexeme_of, lexemes_of};
 
 use crate::cursor::{Read, body_verb, first, symbol_at, take, word};
+use crate::fault::SyntaxFault;
 use crate::item::arg_then;
 use crate::lists::{args_until, exprs_until, perhaps_exprs};
-use crate::opening::{BodyVerb, Follow, Place, Verb};
-use crate::stmt::{Arg, BodyOp, Expr, Stmt, SyntaxFault};
-use crate::symbol::{Symbol, same_symbol};
+use crate::opening::{Follow, Place};
+use crate::symbol::same_symbol;
+use qasm_form::opening::{BodyVerb, Verb};
+use qasm_form::{Arg, BodyOp, Expr, Stmt, Symbol};
 use qasm_lex::Token;
 use std::alloc::Global;
 use zac_gates::List;

@@ -3,8 +3,8 @@
 ghost use Rattle.std.specs.Prelude.{◌≡◌, ◌<◌, ◌≤◌, ◌^◌, ◌⊎◌, ◌++◌, ℕ, List, Ok, length, IfOk, IsErrOf};
 ghost use Rattle.qasm_lex.specs.Cuts.{AreTokensOf};
 ghost use Rattle.qasm_parse.specs.Gives.{Gives, seen, seen_token};
-ghost use Rattle.qasm_parse.specs.Grammar.{unquoted};
-ghost use Rattle.qasm_parse.specs.Numbers.{AreSpelt};
+ghost use Rattle.qasm_form.specs.Grammar.{unquoted};
+ghost use Rattle.qasm_form.specs.Numbers.{AreSpelt};
 ghost use Rattle.qasm_parse.specs.Readings.{
   after_opening,
   barrier,
@@ -14,23 +14,19 @@ ghost use Rattle.qasm_parse.specs.Readings.{
   statement_at,
   version_at,
 };
-ghost use Rattle.qasm_parse.specs.declared.stmt.Stmt.{Stmt};
-ghost use Rattle.qasm_parse.specs.Statements.{
-  IsAnswer,
-  IsStatement,
-  IsSyntaxFault,
-  StatementAt,
-  reading_at,
-};
-ghost use Rattle.qasm_parse.specs.Symbols.{Lexeme, lexeme_of, lexemes_of};
+ghost use Rattle.qasm_form.specs.declared.stmt.Stmt.{Stmt};
+ghost use Rattle.qasm_form.specs.Statements.{IsStatement, IsSyntaxFault, StatementAt};
+ghost use Rattle.qasm_parse.specs.ReadAnswers.{IsAnswer, reading_at};
+ghost use Rattle.qasm_form.specs.Symbols.{Lexeme, lexeme_of, lexemes_of};
 
 use crate::cursor::{Read, number, opening, take, text, verb, word};
 use crate::declaration::{gate, opaque_gate, register};
+use crate::fault::SyntaxFault;
 use crate::lists::args_until;
-use crate::opening::{Opening, Place};
+use crate::opening::Place;
 use crate::operation::after_verb;
-use crate::stmt::{Stmt, SyntaxFault};
-use crate::symbol::Symbol;
+use qasm_form::opening::Opening;
+use qasm_form::{Stmt, Symbol};
 use qasm_lex::{Token, Tokens};
 use std::alloc::Global;
 use zac_gates::Bytes;

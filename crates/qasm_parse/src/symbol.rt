@@ -1,7 +1,7 @@
-//! The symbols that the grammar speaks of.
+//! Which symbol a token is.
 
 ghost use Rattle.std.specs.Prelude.{◌≡◌, map};
-ghost use Rattle.qasm_parse.specs.Symbols.{
+ghost use Rattle.qasm_form.specs.Symbols.{
   capital_symbol,
   row_of,
   sign_symbol,
@@ -11,57 +11,8 @@ ghost use Rattle.qasm_parse.specs.Symbols.{
 };
 ghost use Rattle.qasm_parse.specs.SameSymbols.{same_symbol};
 
+use qasm_form::Symbol;
 use qasm_lex::TokenKind;
-
-/// What a token is to the grammar.
-#[derive(Clone, Copy, PartialEq, Eq)]
-pub enum Symbol {
-    /// A word that isn't reserved.
-    Identifier,
-    /// A whole number.
-    Whole,
-    /// A real.
-    Real,
-    /// A string.
-    Text,
-    /// `OPENQASM`.
-    Header,
-    /// `U`.
-    GateU,
-    /// `CX`.
-    GateCx,
-    Include,
-    Qreg,
-    Creg,
-    Gate,
-    Opaque,
-    Measure,
-    Reset,
-    Barrier,
-    If,
-    Pi,
-    Sin,
-    Cos,
-    Tan,
-    Exp,
-    Ln,
-    Sqrt,
-    Semicolon,
-    Comma,
-    OpenParen,
-    CloseParen,
-    OpenBrace,
-    CloseBrace,
-    OpenBracket,
-    CloseBracket,
-    Plus,
-    Minus,
-    Times,
-    Over,
-    Power,
-    Arrow,
-    Equals,
-}
 
 /// The symbol of a token's kind and text.
 pub(crate) fn symbol_of(kind: TokenKind, text: &[u8]) -> Symbol

@@ -3,8 +3,8 @@ use Rattle.std.proofs.Common.{◌≡◌, ℕ, ◌+◌, ◌<◌, ◌≤◌, ◌�
 use Rattle.std.specs.List.{Any}
 use Rattle.std.proofs.lemmas.Bool.{false≢true}
 use Rattle.std.proofs.lemmas.List.{at_drop_more, at_drop_all}
-use Rattle.qasm_parse.specs.declared.stmt.Arg.{Arg}
-use Rattle.qasm_parse.specs.declared.stmt.Stmt.{Stmt}
+use Rattle.qasm_form.specs.declared.stmt.Arg.{Arg}
+use Rattle.qasm_form.specs.declared.stmt.Stmt.{Stmt}
 use Rattle.qasm_names.specs.Names.{Environment, qubit_size, value_or}
 use Rattle.qasm_names.specs.Applications.{applications, times_by}
 use Rattle.qasm_scope.specs.Judged.{MeetWithin, TouchesReadBy}

@@ -6,14 +6,14 @@ use Rattle.std.specs.Str.{bytes_eq}
 use Rattle.std.proofs.lemmas.Bool.{and_parts, false≢true, eqb-true, leb-true, or_left, or_right, not-true}
 use Rattle.std.proofs.lemmas.List.Folds.{list_all-map}
 use Rattle.std.proofs.lemmas.Slice.Eq.{bytes_eq-Decides}
-use Rattle.qasm_parse.specs.declared.stmt.Arg.{Arg}
-use Rattle.qasm_parse.specs.declared.stmt.BodyOp.{BodyOp}
-use Rattle.qasm_parse.specs.declared.stmt.Expr.{Expr}
-use Rattle.qasm_parse.specs.declared.stmt.Named.{Named}
-use Rattle.qasm_parse.specs.declared.stmt.Node.{Node}
-use Rattle.qasm_parse.specs.declared.stmt.Node.TheVariants as node
-use Rattle.qasm_parse.specs.declared.stmt.Stmt.{Stmt}
-use Rattle.qasm_parse.specs.declared.stmt.Stmt.TheVariants as stmt
+use Rattle.qasm_form.specs.declared.stmt.Arg.{Arg}
+use Rattle.qasm_form.specs.declared.stmt.BodyOp.{BodyOp}
+use Rattle.qasm_form.specs.declared.stmt.Expr.{Expr}
+use Rattle.qasm_form.specs.declared.stmt.Named.{Named}
+use Rattle.qasm_form.specs.declared.stmt.Node.{Node}
+use Rattle.qasm_form.specs.declared.stmt.Node.TheVariants as node
+use Rattle.qasm_form.specs.declared.stmt.Stmt.{Stmt}
+use Rattle.qasm_form.specs.declared.stmt.Stmt.TheVariants as stmt
 use Rattle.qasm_names.specs.declared.fault.ScopeKind.{ScopeKind}
 use Rattle.qasm_names.specs.declared.fault.ScopeKind.TheVariants as kind
 use Rattle.qasm_names.specs.declared.meaning.Callee.{Callee}
@@ -48,7 +48,7 @@ none_from : {T : Type 0} (o : Option T) → is_none o ≡ true → o ≡ None
 none_from None is = refl
 none_from (Some x) is = absurd (false≢true is)
 
-no_item : {X : Type 0} (Q : X → Type 0) → Any Q [] → ⊥
+pub no_item : {X : Type 0} (Q : X → Type 0) → Any Q [] → ⊥
 no_item Q w = let l : w.0 < 0 = w.2 in omega (arith, l)
 
 -- a word that is one of the words is among them

@@ -5,9 +5,9 @@ use Rattle.qasm_lex.specs.Cutting.{cut, front_of}
 use Rattle.qasm_lex.specs.Lexed.{Lexed}
 use Rattle.qasm_parse.specs.Computing.{computed_statements, statements_in}
 use Rattle.qasm_parse.specs.Readings.{name_then, plain_then, index_then, arg_then, expr_then, names_until, args_until, exprs_until, perhaps_names, perhaps_exprs, gate_u, gate_cx, arguments, with_angles, call, after_body_verb, body_operation, body_item, body_ops, argument_names, with_params, signature, gate, after_opening, statement_at, version_at}
-use Rattle.qasm_parse.specs.Statements.{FallInto}
-use Rattle.qasm_parse.specs.Symbols.{Lexeme, lexemes_of}
-use Rattle.qasm_parse.specs.declared.stmt.Stmt.{Stmt}
+use Rattle.qasm_form.specs.Statements.{FallInto}
+use Rattle.qasm_form.specs.Symbols.{Lexeme, lexemes_of}
+use Rattle.qasm_form.specs.declared.stmt.Stmt.{Stmt}
 use Rattle.qasm_names.specs.Header.{IsHeader, header_text}
 use Rattle.qasm_names.specs.Scopes.{IsSoundHeader}
 use Rattle.qasm_scope.specs.FineHeader.{is_fine_header}

@@ -6,9 +6,9 @@ use Rattle.qasm_lex.specs.Lexed.{Lexed}
 use Rattle.qasm_lex.specs.declared.token.LexFault.{LexFault}
 use Rattle.qasm_lex.specs.declared.token.LexFault.TheVariants.{Memory, At}
 use Rattle.qasm_lex.specs.declared.token.Token.{Token}
-use Rattle.qasm_parse.specs.Statements.{IsStatement, FallInto}
-use Rattle.qasm_parse.specs.Symbols.{Lexeme, lexemes_of}
-use Rattle.qasm_parse.specs.declared.stmt.Stmt.{Stmt}
+use Rattle.qasm_form.specs.Statements.{IsStatement, FallInto}
+use Rattle.qasm_form.specs.Symbols.{Lexeme, lexemes_of}
+use Rattle.qasm_form.specs.declared.stmt.Stmt.{Stmt}
 use Rattle.qasm_names.specs.Accepted.{Context, behind}
 use Rattle.qasm_names.specs.Environment.{enter, enter_all, no_names}
 use Rattle.qasm_names.specs.Header.{IsHeader, header_text}

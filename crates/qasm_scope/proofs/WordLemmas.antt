@@ -8,7 +8,7 @@ use Rattle.std.proofs.lemmas.List.{get_or-map, length-map, length-append, map-ap
 use Rattle.std.proofs.lemmas.List.Elements.{Contains-append_right, Contains-append_cases}
 use Rattle.std.proofs.Math.Seq.{take-append-add}
 use Rattle.std.proofs.lemmas.Option.{slice_get_within, slice_get_read, get_or_from_slice_get, same_Some}
-use Rattle.qasm_parse.specs.declared.stmt.Named.{Named}
+use Rattle.qasm_form.specs.declared.stmt.Named.{Named}
 use Rattle.qasm_names.specs.Environment.{words_of}
 use Rattle.qasm_scope.specs.Least.{IsLeastOffset, earlier}
 use Rattle.qasm_scope.specs.Judged.{ComesAgain}

@@ -1,8 +1,8 @@
 -- Inside: what is read of the header's text.
 use Rattle.std.specs.Prelude.{◌≡◌, ℕ, List, ◌++◌, length}
-use Rattle.qasm_parse.specs.Symbols.{Lexeme}
-use Rattle.qasm_parse.specs.Statements.{FallInto}
-use Rattle.qasm_parse.specs.declared.stmt.Stmt.{Stmt}
+use Rattle.qasm_form.specs.Symbols.{Lexeme}
+use Rattle.qasm_form.specs.Statements.{FallInto}
+use Rattle.qasm_form.specs.declared.stmt.Stmt.{Stmt}
 use Rattle.qasm_names.specs.Accepted.{Context}
 use Rattle.qasm_names.specs.Environment.{enter_all, no_names}
 

@@ -1,9 +1,9 @@
 -- Inside: the parts of a judgement: what is asked of one call, one argument, two arguments.
 use Rattle.std.specs.Prelude.{◌≡◌, ℕ, ◌<◌, List, [], ◌∷◌, ◌++◌, Option, Some, None, slice_get, take}
 use Rattle.std.specs.List.{Any, Contains}
-use Rattle.qasm_parse.specs.declared.stmt.Arg.{Arg}
-use Rattle.qasm_parse.specs.declared.stmt.BodyOp.{BodyOp}
-use Rattle.qasm_parse.specs.declared.stmt.Named.{Named}
+use Rattle.qasm_form.specs.declared.stmt.Arg.{Arg}
+use Rattle.qasm_form.specs.declared.stmt.BodyOp.{BodyOp}
+use Rattle.qasm_form.specs.declared.stmt.Named.{Named}
 use Rattle.qasm_scope.specs.declared.arguments.ArgFault.{ArgFault}
 use Rattle.qasm_scope.specs.declared.arguments.ArgFault.TheVariants as arg_fault
 use Rattle.qasm_scope.specs.declared.arguments.Register.{Register}
@@ -19,7 +19,7 @@ use Rattle.qasm_names.specs.Names.{Environment, callee, qubit_size, bit_size, va
 use Rattle.qasm_names.specs.Environment.{words_of}
 use Rattle.qasm_names.specs.Applications.{applied, WasRead}
 use Rattle.qasm_names.specs.Refusals.{DifferInSize, HasOtherParams, HasOtherArity, IsPast, RepeatsWord}
-use Rattle.qasm_parse.specs.declared.stmt.Stmt.{Stmt}
+use Rattle.qasm_form.specs.declared.stmt.Stmt.{Stmt}
 
 -- The size of a register of one kind, of qubits or of bits.
 abbrev pub size_of : Environment → Register → List ℕ → Option ℕ

@@ -7,8 +7,8 @@ ghost use Rattle.qasm_scope.specs.Judged.{TouchesReadBy};
 ghost use Rattle.qasm_names.specs.Refusals.{RepeatsQubit, TouchesRead};
 
 use crate::pairs::{PairFault, has_faulty_pair};
+use qasm_form::Arg;
 use qasm_names::{Known, Names};
-use qasm_parse::Arg;
 
 /// How often a call on these arguments is applied.
 fn applications(known: &Known, args: &[Arg]) -> u64

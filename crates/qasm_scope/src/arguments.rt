@@ -5,8 +5,8 @@ ghost use Rattle.qasm_scope.specs.Judged.{HasArgFault, HasArgFaultAt, size_of};
 ghost use Rattle.qasm_scope.specs.Least.{IsLeastOffset};
 
 use crate::least::earlier;
+use qasm_form::Arg;
 use qasm_names::Known;
-use qasm_parse::Arg;
 
 /// A kind of registers.
 #[derive(Clone, Copy)]

@@ -13,7 +13,7 @@ ghost use Rattle.qasm_names.specs.Refusals.{
 };
 
 use crate::least::earlier;
-use qasm_parse::{Arg, BodyOp, Expr, Named, Node};
+use qasm_form::{Arg, BodyOp, Expr, Named, Node};
 
 /// Whether the word is one of these names.
 fn has_word(names: &[Named], word: &[u8]) -> bool

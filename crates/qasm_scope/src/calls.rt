@@ -7,8 +7,8 @@ ghost use Rattle.qasm_names.specs.Refusals.{HasOtherArity, HasOtherParams, Repea
 
 use crate::least::earlier;
 use crate::pairs::{PairFault, has_faulty_pair};
+use qasm_form::BodyOp;
 use qasm_names::{Callee, Known};
-use qasm_parse::BodyOp;
 
 /// What is wrong with a call.
 #[derive(Clone, Copy)]

@@ -2,9 +2,9 @@
 
 ghost use Rattle.std.specs.Prelude.{◌≡◌, ℕ, ◌<◌, length, IfOk};
 ghost use Rattle.qasm_lex.specs.Cuts.{AreTokensOf};
-ghost use Rattle.qasm_parse.specs.Statements.{IsStatement};
-ghost use Rattle.qasm_parse.specs.Symbols.{lexemes_of};
-ghost use Rattle.qasm_parse.specs.declared.stmt.Stmt.{Stmt};
+ghost use Rattle.qasm_form.specs.Statements.{IsStatement};
+ghost use Rattle.qasm_form.specs.Symbols.{lexemes_of};
+ghost use Rattle.qasm_form.specs.declared.stmt.Stmt.{Stmt};
 ghost use Rattle.qasm_names.specs.Environment.{enter_all, no_names};
 ghost use Rattle.qasm_names.specs.Header.{IsHeader, header_text};
 

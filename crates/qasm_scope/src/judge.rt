@@ -12,8 +12,8 @@ use crate::kinds::{
     after_read_at, argument_at, call_at, control_at, include_at, name_at, redeclared_at,
     repeated_at, reset_at, sizes_at, version_at,
 };
+use qasm_form::Stmt;
 use qasm_names::{Names, ScopeFault, ScopeKind};
-use qasm_parse::Stmt;
 
 /// The kinds of refusals in their order.
 fn kinds_in_order() -> [ScopeKind; 15]

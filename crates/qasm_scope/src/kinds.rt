@@ -26,8 +26,8 @@ use crate::calls::{CallFault, least_call};
 use crate::least::earlier;
 use crate::pairs::{PairFault, has_faulty_pair};
 use crate::parts::{bit_args, calls_in, qubit_args};
+use qasm_form::{Arg, Stmt};
 use qasm_names::{Known, Names};
-use qasm_parse::{Arg, Stmt};
 use std::slice;
 
 /// The offset of a version other than `2.0`.

@@ -1,7 +1,7 @@
 //! What holds of the header, as a law.
 
 ghost use Rattle.std.specs.Prelude.{◌≡◌, List};
-ghost use Rattle.qasm_parse.specs.declared.stmt.Stmt.{Stmt};
+ghost use Rattle.qasm_form.specs.declared.stmt.Stmt.{Stmt};
 ghost use Rattle.qasm_names.specs.Header.{IsHeader};
 ghost use Rattle.qasm_names.specs.Scopes.{IsSoundHeader};
 

@@ -15,6 +15,7 @@ mod parts;
 pub mod scope;
 
 pub use header::header_text;
+pub use laws::one_header;
 pub use qasm_names::{
     Bound, GateDef, ScopeFault, ScopeKind, SourceProgram, Target, gates_are_well_bound,
     gates_only_grow,

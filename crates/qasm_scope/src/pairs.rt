@@ -5,8 +5,8 @@ ghost use Rattle.std.specs.List.{Any};
 ghost use Rattle.qasm_scope.specs.Judged.{HasPairFault, IndicesMeet, MeetWithin};
 ghost use Rattle.qasm_names.specs.Refusals.{DifferInSize, SomeTwo};
 
+use qasm_form::Arg;
 use qasm_names::Known;
-use qasm_parse::Arg;
 
 /// What is wrong with two arguments of a call.
 #[derive(Clone, Copy)]

@@ -3,7 +3,7 @@
 ghost use Rattle.std.specs.Prelude.{◌≡◌};
 ghost use Rattle.qasm_names.specs.Refusals.{bit_args, calls_in, qubit_args};
 
-use qasm_parse::{Arg, BodyOp, Stmt};
+use qasm_form::{Arg, BodyOp, Stmt};
 use std::slice;
 
 /// The arguments of a statement at the top that are qubits.

@@ -3,8 +3,8 @@
 use crate::header::read_header;
 use crate::judge::refusal_of;
 use crate::laws::one_header;
+use qasm_form::Stmt;
 use qasm_names::{GateDef, ScopeFault, SourceProgram, Target};
-use qasm_parse::Stmt;
 use std::alloc::Global;
 use std::marker::Model;
 use zac_gates::Memory;
@@ -26,8 +26,8 @@ impl Model for Scope {
 
 impl Scope {
     ghost use Rattle.std.specs.Prelude.{◌≡◌, ℕ, [], ◌∷◌, ◌++◌, Some, take, slice_get, IfOk, OnOk, OnErr, MatchResult};
-    ghost use Rattle.qasm_parse.specs.declared.stmt.BodyOp.{BodyOp};
-    ghost use Rattle.qasm_parse.specs.declared.stmt.Stmt.TheVariants as stmt;
+    ghost use Rattle.qasm_form.specs.declared.stmt.BodyOp.{BodyOp};
+    ghost use Rattle.qasm_form.specs.declared.stmt.Stmt.TheVariants as stmt;
     ghost use Rattle.qasm_names.specs.Accepted.{AreAdmissible, IsAdmissible};
     ghost use Rattle.qasm_names.specs.Bound.{IsWellBound};
     ghost use Rattle.qasm_names.specs.Environment.{environment};

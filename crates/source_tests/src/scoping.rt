@@ -57,9 +57,6 @@ fn letter(target: Target) -> u8 {
 fn drawn(alloc: Global, scope: &Scope) -> Result<Vec<u8>, AllocError> {
     let mut picture = Vec::new(alloc);
     for (place, stmt) in scope.statements().iter().enumerate() {
-        let Ok(place) = u32::try_from(place) else {
-            return Ok(picture);
-        };
         let one = match stmt {
             Stmt::Call { .. } => letter(scope.target(place)),
             _ => b'.',

@@ -4,12 +4,12 @@ use Rattle.std.proofs.lemmas.List.{append-nil}
 use Rattle.qasm_lex.specs.Cuts.{IsLexFault}
 use Rattle.qasm_lex.specs.Lexed.{Lexed}
 use Rattle.qasm_lex.proofs.CutLemmas as lexing
-use Rattle.qasm_parse.specs.Statements.{IsStatement, IsSyntaxFault, Begins, FallInto}
-use Rattle.qasm_parse.specs.Symbols.{Lexeme, lexemes_of}
-use Rattle.qasm_parse.specs.declared.stmt.Stmt.{Stmt}
-use Rattle.qasm_parse.specs.declared.stmt.Stmt.TheVariants as stmt
-use Rattle.qasm_parse.specs.declared.stmt.SyntaxFault.TheVariants as parsing
-use Rattle.qasm_parse.specs.declared.symbol.Symbol.TheVariants as symbols
+use Rattle.qasm_form.specs.Statements.{IsStatement, IsSyntaxFault, Begins, FallInto}
+use Rattle.qasm_form.specs.Symbols.{Lexeme, lexemes_of}
+use Rattle.qasm_form.specs.declared.stmt.Stmt.{Stmt}
+use Rattle.qasm_form.specs.declared.stmt.Stmt.TheVariants as stmt
+use Rattle.qasm_parse.specs.declared.fault.SyntaxFault.TheVariants as parsing
+use Rattle.qasm_form.specs.declared.symbol.Symbol.TheVariants as symbols
 use Rattle.qasm_parse.proofs.AnswerLemmas.{answer_every, answer_refused}
 use Rattle.qasm_parse.proofs.LoopLemmas.{length-lexemes_of}
 use Rattle.qasm_names.specs.Accepted.{IsAdmissible, Program}

@@ -2,9 +2,9 @@
 use Rattle.std.specs.Prelude.{◌≡◌, ◌≢◌, ℕ, ◌<◌, ◌⊎◌, List, [], ◌∷◌, ◌++◌, length}
 use Rattle.qasm_lex.specs.Cuts.{AreTokensOf, IsLexFault}
 use Rattle.qasm_lex.specs.Lexed.{Lexed}
-use Rattle.qasm_parse.specs.Statements.{IsStatement, IsSyntaxFault}
-use Rattle.qasm_parse.specs.Symbols.{Lexeme, lexemes_of}
-use Rattle.qasm_parse.specs.declared.stmt.Stmt.{Stmt}
+use Rattle.qasm_form.specs.Statements.{IsStatement, IsSyntaxFault}
+use Rattle.qasm_form.specs.Symbols.{Lexeme, lexemes_of}
+use Rattle.qasm_form.specs.declared.stmt.Stmt.{Stmt}
 use Rattle.qasm_names.specs.Accepted.{IsAdmissible, Program}
 use Rattle.qasm_names.specs.Environment.{environment}
 use Rattle.qasm_names.specs.Header.{IsHeader}

@@ -2,8 +2,8 @@
 
 ghost use Rattle.std.specs.Prelude.{◌≡◌, ◌<◌, ◌≤◌, ◌⊎◌, ℕ, length, IfErr, IfOk};
 ghost use Rattle.qasm_lex.specs.Cuts.{AreTokensOf};
-ghost use Rattle.qasm_parse.specs.Statements.{IsStatement, IsSyntaxFault};
-ghost use Rattle.qasm_parse.specs.Symbols.{lexemes_of};
+ghost use Rattle.qasm_form.specs.Statements.{IsStatement, IsSyntaxFault};
+ghost use Rattle.qasm_form.specs.Symbols.{lexemes_of};
 ghost use Rattle.zac_flow.specs.Inputs.{source_limit};
 ghost use Rattle.zac_flow.specs.Refusals.{IsRefusalOrWant};
 ghost use Rattle.zac_flow.specs.Source.{IsAccepted, IsAcceptedTo};

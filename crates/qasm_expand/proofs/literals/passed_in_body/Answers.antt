@@ -1,5 +1,5 @@
 use Rattle.std.proofs.Common.{ap, sym, ◌∙◌}
-use Rattle.qasm_parse.specs.declared.stmt.BodyOp.{BodyOp}
+use Rattle.qasm_form.specs.declared.stmt.BodyOp.{BodyOp}
 use Rattle.qasm_expand.specs.Limits.{literals_in, passed_by_literals}
 use Rattle.qasm_expand.proofs.LiteralsLemmas.{passed_found, passed_more}
 use Rattle.qasm_expand.proofs.literals.passed_in_body.Goals as goal

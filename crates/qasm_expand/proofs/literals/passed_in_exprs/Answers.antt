@@ -1,5 +1,5 @@
 use Rattle.std.proofs.Common.{ap, sym, ◌∙◌}
-use Rattle.qasm_parse.specs.declared.stmt.Expr.{Expr}
+use Rattle.qasm_form.specs.declared.stmt.Expr.{Expr}
 use Rattle.std.specs.List.{flat_map}
 use Rattle.qasm_expand.specs.Limits.{literal_of, passed_by_literals}
 use Rattle.qasm_expand.proofs.LiteralsLemmas.{passed_found, passed_more}

@@ -1,7 +1,7 @@
 use Rattle.std.proofs.Common.{◌≡◌, sym, ◌∙◌, ap, subst, arith}
 use Rattle.std.specs.List.{zip, AllByRecursion}
-use Rattle.qasm_parse.specs.Numbers.{HasNumber, IsExpression}
-use Rattle.qasm_parse.specs.Postfix.{IsPostfix}
+use Rattle.qasm_form.specs.Numbers.{HasNumber, IsExpression}
+use Rattle.qasm_form.specs.Postfix.{IsPostfix}
 use Rattle.qasm_expand.specs.Angles.{substitute}
 use Rattle.qasm_expand.proofs.SubstitutionLemmas.{stand_more, put_more, put_done, put_expression}
 use Rattle.qasm_expand.proofs.substitution.substitute.Goals as goal

@@ -1,7 +1,7 @@
 use Rattle.std.proofs.Common.{rules, ◌≡◌, ◌<◌, ◌∷◌, [], map, ap, subst, sym, ◌∙◌}
 use Rattle.std.specs.List.{AllByRecursion}
 use Rattle.std.proofs.lemmas.Result.{err_from_is_err_and}
-use Rattle.qasm_parse.specs.declared.stmt.Arg.{Arg}
+use Rattle.qasm_form.specs.declared.stmt.Arg.{Arg}
 use Rattle.qasm_names.specs.Applications.{applications, applied}
 use Rattle.qasm_expand.specs.Calls.{at_depth}
 use Rattle.qasm_expand.specs.Items.{Item, application, qubit_number}

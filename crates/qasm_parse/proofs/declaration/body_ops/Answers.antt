@@ -1,7 +1,7 @@
 use Rattle.std.proofs.Common.{arith}
 use Rattle.std.proofs.lemmas.Result.{err_from_is_err_and}
 use Rattle.qasm_parse.specs.Bodies.{item_of}
-use Rattle.qasm_parse.specs.Symbols.{lexemes_of}
+use Rattle.qasm_form.specs.Symbols.{lexemes_of}
 use Rattle.qasm_parse.specs.Readings.{body_ops}
 use Rattle.qasm_parse.proofs.LoopLemmas.{body_more, body_last, body_fails, item_shorter, length-lexemes_of}
 use Rattle.qasm_parse.proofs.LeftLemmas.{item_left}

@@ -1,7 +1,7 @@
 use Rattle.std.proofs.Common.{length}
 use Rattle.qasm_parse.specs.Readings.{body_item}
-use Rattle.qasm_parse.specs.Numbers.{AreSpelt}
-use Rattle.qasm_parse.specs.Symbols.{lexemes_of}
+use Rattle.qasm_form.specs.Numbers.{AreSpelt}
+use Rattle.qasm_form.specs.Symbols.{lexemes_of}
 use Rattle.qasm_parse.proofs.LoopLemmas.{Reading}
 use Rattle.qasm_parse.proofs.declaration.body_ops.Given as goal
 

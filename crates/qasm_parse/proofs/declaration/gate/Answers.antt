@@ -1,5 +1,5 @@
-use Rattle.qasm_parse.specs.declared.symbol.Symbol.TheVariants as sym
-use Rattle.qasm_parse.specs.Symbols.{lexeme_of, lexemes_of}
+use Rattle.qasm_form.specs.declared.symbol.Symbol.TheVariants as sym
+use Rattle.qasm_form.specs.Symbols.{lexeme_of, lexemes_of}
 use Rattle.qasm_parse.proofs.LeftLemmas.{token_left, signature_left}
 use Rattle.qasm_parse.proofs.declaration.gate.Goals as goal
 

@@ -1,4 +1,4 @@
-use Rattle.qasm_parse.specs.Symbols.{lexeme_of}
+use Rattle.qasm_form.specs.Symbols.{lexeme_of}
 use Rattle.qasm_parse.proofs.MoveLemmas.{passing_more, passing_move, passing_end}
 use Rattle.qasm_parse.proofs.expr.advance.Goals as goal
 

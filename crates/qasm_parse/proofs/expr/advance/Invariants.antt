@@ -1,5 +1,5 @@
 use Rattle.std.proofs.Common.{length}
-use Rattle.qasm_parse.specs.Symbols.{lexeme_of}
+use Rattle.qasm_form.specs.Symbols.{lexeme_of}
 use Rattle.qasm_parse.proofs.MoveLemmas.{Passing}
 use Rattle.qasm_parse.proofs.expr.advance.Given as goal
 

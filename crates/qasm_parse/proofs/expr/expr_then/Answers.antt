@@ -1,5 +1,5 @@
-use Rattle.qasm_parse.specs.Openings.{follows}
-use Rattle.qasm_parse.specs.Symbols.{lexemes_of}
+use Rattle.qasm_parse.specs.Follows.{follows}
+use Rattle.qasm_form.specs.Symbols.{lexemes_of}
 use Rattle.qasm_parse.proofs.NumberLemmas.{run_expression}
 use Rattle.qasm_parse.proofs.expr.expr_then.Goals as goal
 

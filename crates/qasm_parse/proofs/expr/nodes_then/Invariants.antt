@@ -1,9 +1,9 @@
 use Rattle.std.proofs.Common.{◌≡◌, [], ◌∷◌, length}
 use Rattle.std.specs.Prelude.{reverse}
-use Rattle.qasm_parse.specs.declared.part.Part.TheVariants as part
-use Rattle.qasm_parse.specs.Expressions.{run}
-use Rattle.qasm_parse.specs.Openings.{follows}
-use Rattle.qasm_parse.specs.Symbols.{lexemes_of}
+use Rattle.qasm_form.specs.declared.part.Part.TheVariants as part
+use Rattle.qasm_parse.specs.Running.{run}
+use Rattle.qasm_parse.specs.Follows.{follows}
+use Rattle.qasm_form.specs.Symbols.{lexemes_of}
 use Rattle.qasm_parse.proofs.expr.nodes_then.Given as goal
 
 abbrev pub invariant-loop-nodes : goal.invariant-loop-nodes

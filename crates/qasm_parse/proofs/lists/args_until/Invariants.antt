@@ -1,8 +1,8 @@
 use Rattle.std.proofs.Common.{length}
-use Rattle.qasm_parse.specs.declared.symbol.Symbol.TheVariants as sym
+use Rattle.qasm_form.specs.declared.symbol.Symbol.TheVariants as sym
 use Rattle.qasm_parse.specs.declared.opening.Follow.TheVariants.{Until}
 use Rattle.qasm_parse.specs.Readings.{one_more, arg_then}
-use Rattle.qasm_parse.specs.Symbols.{lexemes_of}
+use Rattle.qasm_form.specs.Symbols.{lexemes_of}
 use Rattle.qasm_parse.proofs.LoopLemmas.{Reading}
 use Rattle.qasm_parse.proofs.lists.args_until.Given as goal
 

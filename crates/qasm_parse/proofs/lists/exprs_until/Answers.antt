@@ -1,8 +1,8 @@
 use Rattle.std.proofs.Common.{◌∙◌, arith}
 use Rattle.std.proofs.lemmas.Result.{err_from_is_err_and}
-use Rattle.qasm_parse.specs.declared.symbol.Symbol.TheVariants as sym
+use Rattle.qasm_form.specs.declared.symbol.Symbol.TheVariants as sym
 use Rattle.qasm_parse.specs.declared.opening.Follow.TheVariants.{Until}
-use Rattle.qasm_parse.specs.Symbols.{lexemes_of}
+use Rattle.qasm_form.specs.Symbols.{lexemes_of}
 use Rattle.qasm_parse.specs.Readings.{exprs_until, expr_then}
 use Rattle.qasm_parse.proofs.LoopLemmas.{list_more, list_last, list_fails, expr_shorter, length-lexemes_of}
 use Rattle.qasm_parse.proofs.LeftLemmas.{expr_left}

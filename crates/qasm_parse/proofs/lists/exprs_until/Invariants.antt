@@ -1,9 +1,9 @@
 use Rattle.std.proofs.Common.{length}
-use Rattle.qasm_parse.specs.declared.symbol.Symbol.TheVariants as sym
+use Rattle.qasm_form.specs.declared.symbol.Symbol.TheVariants as sym
 use Rattle.qasm_parse.specs.declared.opening.Follow.TheVariants.{Until}
 use Rattle.qasm_parse.specs.Readings.{one_more, expr_then}
-use Rattle.qasm_parse.specs.Numbers.{AreSpelt}
-use Rattle.qasm_parse.specs.Symbols.{lexemes_of}
+use Rattle.qasm_form.specs.Numbers.{AreSpelt}
+use Rattle.qasm_form.specs.Symbols.{lexemes_of}
 use Rattle.qasm_parse.proofs.LoopLemmas.{Reading}
 use Rattle.qasm_parse.proofs.lists.exprs_until.Given as goal
 

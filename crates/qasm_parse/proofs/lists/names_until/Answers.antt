@@ -1,7 +1,7 @@
 use Rattle.std.proofs.Common.{◌∙◌, arith}
 use Rattle.std.proofs.lemmas.Result.{err_from_is_err_and}
 use Rattle.qasm_parse.specs.declared.opening.Follow.TheVariants.{Until}
-use Rattle.qasm_parse.specs.Symbols.{lexemes_of}
+use Rattle.qasm_form.specs.Symbols.{lexemes_of}
 use Rattle.qasm_parse.specs.Readings.{names_until, name_then}
 use Rattle.qasm_parse.proofs.LoopLemmas.{list_more, list_last, list_fails, name_shorter, length-lexemes_of}
 use Rattle.qasm_parse.proofs.lists.names_until.Goals as goal

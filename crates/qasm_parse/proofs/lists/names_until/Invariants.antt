@@ -1,7 +1,7 @@
 use Rattle.std.proofs.Common.{length}
 use Rattle.qasm_parse.specs.declared.opening.Follow.TheVariants.{Until}
 use Rattle.qasm_parse.specs.Readings.{one_more, name_then}
-use Rattle.qasm_parse.specs.Symbols.{lexemes_of}
+use Rattle.qasm_form.specs.Symbols.{lexemes_of}
 use Rattle.qasm_parse.proofs.LoopLemmas.{Reading}
 use Rattle.qasm_parse.proofs.lists.names_until.Given as goal
 

@@ -2,9 +2,9 @@ use Rattle.std.proofs.Common.{◌≡◌, ◌-◌, length, Ok, sym as flip, ap, s
 use Rattle.std.proofs.lemmas.Result.{err_from_is_err_and}
 use Rattle.std.proofs.lemmas.List.{take_rest}
 use Rattle.qasm_parse.specs.Gives.{Fails}
-use Rattle.qasm_parse.specs.Numbers.{AreSpelt}
-use Rattle.qasm_parse.specs.Symbols.{lexemes_of}
-use Rattle.qasm_parse.specs.Statements.{reading_at}
+use Rattle.qasm_form.specs.Numbers.{AreSpelt}
+use Rattle.qasm_form.specs.Symbols.{lexemes_of}
+use Rattle.qasm_parse.specs.ReadAnswers.{reading_at}
 use Rattle.qasm_parse.proofs.AnswerLemmas.{answer_ok, answer_fails, slice_from}
 use Rattle.qasm_parse.proofs.LoopLemmas.{length-lexemes_of}
 use Rattle.qasm_parse.proofs.SpeltLemmas.{spelt_drop}

@@ -1,8 +1,8 @@
 use Rattle.std.proofs.Common.{refl}
-use Rattle.qasm_parse.specs.declared.opening.Verb.TheVariants as verb
-use Rattle.qasm_parse.specs.declared.symbol.Symbol.TheVariants as sym
-use Rattle.qasm_parse.specs.Openings.{verb_of}
-use Rattle.qasm_parse.specs.Symbols.{lexeme_of, lexemes_of}
+use Rattle.qasm_form.specs.declared.opening.Verb.TheVariants as verb
+use Rattle.qasm_form.specs.declared.symbol.Symbol.TheVariants as sym
+use Rattle.qasm_form.specs.Openings.{verb_of}
+use Rattle.qasm_form.specs.Symbols.{lexeme_of, lexemes_of}
 use Rattle.qasm_parse.proofs.LeftLemmas.{one_of_left, condition_left}
 use Rattle.qasm_parse.proofs.reader.conditional.Goals as goal
 

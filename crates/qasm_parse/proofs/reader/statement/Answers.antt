@@ -1,7 +1,7 @@
 use Rattle.std.proofs.Common.{length, sym as flip, ap, subst, arith}
-use Rattle.qasm_parse.specs.Symbols.{lexemes_of}
-use Rattle.qasm_parse.specs.Numbers.{AreSpelt}
-use Rattle.qasm_parse.specs.Statements.{IsAnswer}
+use Rattle.qasm_form.specs.Symbols.{lexemes_of}
+use Rattle.qasm_form.specs.Numbers.{AreSpelt}
+use Rattle.qasm_parse.specs.ReadAnswers.{IsAnswer}
 use Rattle.qasm_parse.proofs.AnswerLemmas.{answer_read, answer_fault, answer_every, answer_refused, few_tokens}
 use Rattle.qasm_parse.proofs.TokenLemmas.{tokens_spelt}
 use Rattle.qasm_parse.proofs.reader.statement.Goals as goal

@@ -1,5 +1,5 @@
 use Rattle.std.proofs.Common.{◌≡◌, drop, map}
-use Rattle.qasm_parse.specs.Symbols.{symbol_in, row_of}
+use Rattle.qasm_form.specs.Symbols.{symbol_in, row_of}
 use Rattle.qasm_parse.proofs.symbol.symbol_in.Given as goal
 
 abbrev pub invariant-loop-row : goal.invariant-loop-row

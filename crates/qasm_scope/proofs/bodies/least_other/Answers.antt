@@ -1,6 +1,6 @@
 use Rattle.std.proofs.Common.{List, subst}
 use Rattle.std.specs.List.{Any}
-use Rattle.qasm_parse.specs.declared.stmt.Node.{Node}
+use Rattle.qasm_form.specs.declared.stmt.Node.{Node}
 use Rattle.qasm_names.specs.Environment.{words_of}
 use Rattle.qasm_names.specs.Refusals.{UsesOther}
 use Rattle.qasm_scope.specs.Least.{IsLeastOffset}

@@ -1,6 +1,6 @@
 use Rattle.std.proofs.Common.{List, subst}
-use Rattle.qasm_parse.specs.declared.stmt.Arg.{Arg}
-use Rattle.qasm_parse.specs.declared.stmt.Expr.{Expr}
+use Rattle.qasm_form.specs.declared.stmt.Arg.{Arg}
+use Rattle.qasm_form.specs.declared.stmt.Expr.{Expr}
 use Rattle.qasm_names.specs.Environment.{words_of}
 use Rattle.qasm_scope.specs.Judged.{IsForeignAt}
 use Rattle.qasm_names.specs.Refusals.{UsesOtherIn}

@@ -1,7 +1,7 @@
 use Rattle.std.proofs.Common.{◌≡◌, ◌≤◌, List, length, ap, subst, arith}
 use Rattle.qasm_lex.specs.declared.token.Token.{Token}
-use Rattle.qasm_parse.specs.Statements.{IsStatement}
-use Rattle.qasm_parse.specs.Symbols.{lexemes_of}
+use Rattle.qasm_form.specs.Statements.{IsStatement}
+use Rattle.qasm_form.specs.Symbols.{lexemes_of}
 use Rattle.qasm_scope.specs.HeaderReading.{IsReadHeader}
 use Rattle.qasm_scope.proofs.HeaderReadingLemmas.{read_none, next_stands, next_admissible, IsReadHeader-push, header_falls, read_all, length-lexemes_of}
 use Rattle.qasm_scope.proofs.header.read_statements.Goals as goal

@@ -1,5 +1,5 @@
 use Rattle.std.proofs.Common.{◌≤◌, ◌-◌, length}
-use Rattle.qasm_parse.specs.Symbols.{lexemes_of}
+use Rattle.qasm_form.specs.Symbols.{lexemes_of}
 use Rattle.qasm_scope.specs.HeaderReading.{IsReadHeader}
 use Rattle.qasm_scope.proofs.header.read_statements.Given as goal
 

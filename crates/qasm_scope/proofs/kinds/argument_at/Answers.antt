@@ -1,5 +1,5 @@
 use Rattle.std.proofs.Common.{List, subst}
-use Rattle.qasm_parse.specs.declared.stmt.Arg.{Arg}
+use Rattle.qasm_form.specs.declared.stmt.Arg.{Arg}
 use Rattle.qasm_scope.specs.declared.arguments.Register.TheVariants as register
 use Rattle.qasm_scope.specs.Judged.{HasArgFaultAt}
 use Rattle.qasm_scope.specs.Least.{IsLeastOffset}

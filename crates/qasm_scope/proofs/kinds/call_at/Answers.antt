@@ -1,5 +1,5 @@
 use Rattle.std.proofs.Common.{List, subst}
-use Rattle.qasm_parse.specs.declared.stmt.BodyOp.{BodyOp}
+use Rattle.qasm_form.specs.declared.stmt.BodyOp.{BodyOp}
 use Rattle.qasm_scope.specs.Judged.{HasCallFaultAt}
 use Rattle.qasm_scope.specs.Least.{IsLeastOffset}
 use Rattle.qasm_scope.proofs.kinds.call_at.Goals as goal

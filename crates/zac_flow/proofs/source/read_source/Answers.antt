@@ -1,6 +1,6 @@
 use Rattle.std.proofs.Common.{◌≡◌, ◌∙◌, inr, List, [], ◌∷◌, length, refl, sym, ap, arith}
 use Rattle.std.proofs.lemmas.Bool.{eqb-true}
-use Rattle.qasm_parse.specs.declared.stmt.Stmt.{Stmt}
+use Rattle.qasm_form.specs.declared.stmt.Stmt.{Stmt}
 use Rattle.zac_flow.proofs.Reading.{version_missing}
 use Rattle.zac_flow.proofs.source.read_source.Goals as goal
 

@@ -1,7 +1,7 @@
 use Rattle.std.proofs.Common.{◌≡◌, take, map}
 use Rattle.std.specs.List.{position_or_len}
 use Rattle.std.specs.Str.{bytes_eq}
-use Rattle.qasm_parse.specs.declared.stmt.Arg.{Arg}
+use Rattle.qasm_form.specs.declared.stmt.Arg.{Arg}
 use Rattle.qasm_names.proofs.places.Places.all.Given as goal
 
 abbrev pub invariant-loop-arg : goal.invariant-loop-arg

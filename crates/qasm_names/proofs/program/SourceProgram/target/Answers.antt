@@ -1,6 +1,6 @@
 use Rattle.std.proofs.Common.{[], arith, ◌≡◌, Some, take, slice_get, ap, ◌∙◌}
 use Rattle.std.proofs.lemmas.Option.{slice_get_within}
-use Rattle.qasm_parse.specs.declared.stmt.Stmt.TheVariants as stmt
+use Rattle.qasm_form.specs.declared.stmt.Stmt.TheVariants as stmt
 use Rattle.qasm_names.specs.Accepted.{Program}
 use Rattle.qasm_names.specs.Environment.{opening_names, environment}
 use Rattle.qasm_names.specs.Names.{callee, target_of}

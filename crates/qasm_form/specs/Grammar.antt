@@ -1,24 +1,24 @@
 -- The statements of OpenQASM 2.0 (Cross et al. 2017), by their productions: which tokens stand for which statement.
 use Rattle.std.specs.Prelude.{ℕ, ◌+◌, ◌-◌, ◌*◌, ◌^◌, min, List, [], ◌∷◌, length, take, drop, fold, Some, None}
-use Rattle.qasm_parse.specs.declared.symbol.Symbol.{Symbol}
-use Rattle.qasm_parse.specs.declared.symbol.Symbol.TheVariants as sym
-use Rattle.qasm_parse.specs.declared.stmt.Arg.{Arg}
-use Rattle.qasm_parse.specs.declared.stmt.BodyOp.{BodyOp}
-use Rattle.qasm_parse.specs.declared.stmt.Expr.{Expr}
-use Rattle.qasm_parse.specs.declared.stmt.Named.{Named}
-use Rattle.qasm_parse.specs.declared.stmt.Stmt.{Stmt}
-use Rattle.qasm_parse.specs.declared.stmt.Stmt.TheVariants as stmt
-use Rattle.qasm_parse.specs.declared.part.Part.TheVariants as part
-use Rattle.qasm_parse.specs.declared.opening.Verb.{Verb}
-use Rattle.qasm_parse.specs.declared.opening.Verb.TheVariants as verb
-use Rattle.qasm_parse.specs.declared.opening.BodyVerb.{BodyVerb}
-use Rattle.qasm_parse.specs.declared.opening.BodyVerb.TheVariants as body
-use Rattle.qasm_parse.specs.declared.opening.Opening.{Opening}
-use Rattle.qasm_parse.specs.declared.opening.Opening.TheVariants as opens
-use Rattle.qasm_parse.specs.Symbols.{Lexeme}
-use Rattle.qasm_parse.specs.Languages.{Language, Value, Token, OneOf, Or, Listed, Many, ◌>>=◌}
-use Rattle.qasm_parse.specs.Expressions.{Derives}
-use Rattle.qasm_parse.specs.Openings.{verb_of, body_verb_of, opening_of, is_number}
+use Rattle.qasm_form.specs.declared.symbol.Symbol.{Symbol}
+use Rattle.qasm_form.specs.declared.symbol.Symbol.TheVariants as sym
+use Rattle.qasm_form.specs.declared.stmt.Arg.{Arg}
+use Rattle.qasm_form.specs.declared.stmt.BodyOp.{BodyOp}
+use Rattle.qasm_form.specs.declared.stmt.Expr.{Expr}
+use Rattle.qasm_form.specs.declared.stmt.Named.{Named}
+use Rattle.qasm_form.specs.declared.stmt.Stmt.{Stmt}
+use Rattle.qasm_form.specs.declared.stmt.Stmt.TheVariants as stmt
+use Rattle.qasm_form.specs.declared.part.Part.TheVariants as part
+use Rattle.qasm_form.specs.declared.opening.Verb.{Verb}
+use Rattle.qasm_form.specs.declared.opening.Verb.TheVariants as verb
+use Rattle.qasm_form.specs.declared.opening.BodyVerb.{BodyVerb}
+use Rattle.qasm_form.specs.declared.opening.BodyVerb.TheVariants as body
+use Rattle.qasm_form.specs.declared.opening.Opening.{Opening}
+use Rattle.qasm_form.specs.declared.opening.Opening.TheVariants as opens
+use Rattle.qasm_form.specs.Symbols.{Lexeme}
+use Rattle.qasm_form.specs.Languages.{Language, Value, Token, OneOf, Or, Listed, Many, ◌>>=◌}
+use Rattle.qasm_form.specs.Expressions.{Derives}
+use Rattle.qasm_form.specs.Openings.{verb_of, body_verb_of, opening_of, is_number}
 
 -- Digits as a number; one past 2⁶⁴ − 1 stands as 2⁶⁴ − 1.
 abbrev pub number_of : List ℕ → ℕ

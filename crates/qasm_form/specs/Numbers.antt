@@ -2,12 +2,12 @@
 use Rattle.std.specs.Prelude.{ℕ, ◌⊎◌, List}
 use Rattle.std.specs.List.{AllByRecursion}
 use Rattle.qasm_lex.specs.Forms.{IsDigits, IsReal}
-use Rattle.qasm_parse.specs.declared.stmt.Node.{Node}
-use Rattle.qasm_parse.specs.declared.stmt.Node.TheVariants as node
-use Rattle.qasm_parse.specs.declared.symbol.Symbol.{Symbol}
-use Rattle.qasm_parse.specs.declared.symbol.Symbol.TheVariants as sym
-use Rattle.qasm_parse.specs.Symbols.{Lexeme}
-use Rattle.qasm_parse.specs.Postfix.{IsPostfix}
+use Rattle.qasm_form.specs.declared.stmt.Node.{Node}
+use Rattle.qasm_form.specs.declared.stmt.Node.TheVariants as node
+use Rattle.qasm_form.specs.declared.symbol.Symbol.{Symbol}
+use Rattle.qasm_form.specs.declared.symbol.Symbol.TheVariants as sym
+use Rattle.qasm_form.specs.Symbols.{Lexeme}
+use Rattle.qasm_form.specs.Postfix.{IsPostfix}
 
 -- A text is one digit or more, or a real.
 abbrev pub IsNumber : List ℕ → Type 0

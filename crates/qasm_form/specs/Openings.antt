@@ -1,16 +1,13 @@
--- What a symbol begins, and what may stand behind an item.
-use Rattle.std.specs.Prelude.{Bool, true, false, Option, Some, None, if◌then◌else◌}
-use Rattle.qasm_parse.specs.declared.symbol.Symbol.{Symbol}
-use Rattle.qasm_parse.specs.declared.symbol.Symbol.TheVariants as sym
-use Rattle.qasm_parse.specs.declared.opening.Verb.{Verb}
-use Rattle.qasm_parse.specs.declared.opening.Verb.TheVariants as verb
-use Rattle.qasm_parse.specs.declared.opening.BodyVerb.{BodyVerb}
-use Rattle.qasm_parse.specs.declared.opening.BodyVerb.TheVariants as body
-use Rattle.qasm_parse.specs.declared.opening.Opening.{Opening}
-use Rattle.qasm_parse.specs.declared.opening.Opening.TheVariants as opens
-use Rattle.qasm_parse.specs.declared.opening.Follow.{Follow}
-use Rattle.qasm_parse.specs.declared.opening.Follow.TheVariants.{Only, Until}
-use Rattle.qasm_parse.specs.SameSymbols.{same_symbol}
+-- What a symbol begins.
+use Rattle.std.specs.Prelude.{Bool, true, Option, Some, None}
+use Rattle.qasm_form.specs.declared.symbol.Symbol.{Symbol}
+use Rattle.qasm_form.specs.declared.symbol.Symbol.TheVariants as sym
+use Rattle.qasm_form.specs.declared.opening.Verb.{Verb}
+use Rattle.qasm_form.specs.declared.opening.Verb.TheVariants as verb
+use Rattle.qasm_form.specs.declared.opening.BodyVerb.{BodyVerb}
+use Rattle.qasm_form.specs.declared.opening.BodyVerb.TheVariants as body
+use Rattle.qasm_form.specs.declared.opening.Opening.{Opening}
+use Rattle.qasm_form.specs.declared.opening.Opening.TheVariants as opens
 
 -- Which symbols begin an operation at the top: `U`, `CX`, a name, `measure`, `reset`.
 abbrev pub verb_of : Symbol → Option Verb
@@ -50,9 +47,3 @@ abbrev pub is_number : Symbol → Option Bool
 is_number sym.Whole = Some true
 is_number sym.Real = Some true
 is_number other = None
-
--- What may stand behind an item: one sign alone, or a comma and that sign.
-abbrev pub follows : Follow → Symbol → Option Bool
-follows (Only stop) symbol = if same_symbol symbol stop then Some false else None
-follows (Until stop) symbol =
-    if same_symbol symbol stop then Some false else (if same_symbol symbol sym.Comma then Some true else None)

@@ -9,8 +9,8 @@ use Rattle.std.proofs.lemmas.List.Folds.{list_all-append}
 use Rattle.zac_gates.specs.Angle.{is_angle_byte}
 use Rattle.qasm_lex.specs.Bytes.{AllPass}
 use Rattle.qasm_lex.specs.Forms.{IsDigits, IsPointed, IsOptionalSign, IsExponent}
-use Rattle.qasm_parse.specs.declared.stmt.Node.{Node}
-use Rattle.qasm_parse.specs.Numbers.{IsNumber, HasNumber}
+use Rattle.qasm_form.specs.declared.stmt.Node.{Node}
+use Rattle.qasm_form.specs.Numbers.{IsNumber, HasNumber}
 
 -- bytes of an angle, one at least
 abbrev Fits : List ℕ → Type 0

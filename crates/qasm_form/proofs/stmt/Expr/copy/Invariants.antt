@@ -1,5 +1,5 @@
 use Rattle.std.proofs.Common.{◌≡◌, take}
-use Rattle.qasm_parse.proofs.stmt.Expr.copy.Given as goal
+use Rattle.qasm_form.proofs.stmt.Expr.copy.Given as goal
 
 abbrev pub invariant-loop-node : goal.invariant-loop-node
 invariant-loop-node l = l.nodes.items ≡ take l.node-index l.node-items

@@ -1,13 +1,14 @@
--- What reading a statement promises.
-use Rattle.std.specs.Prelude.{◌≡◌, ℕ, zero, suc, ◌-◌, ◌<◌, ◌≤◌, List, [], ◌∷◌, ◌++◌, length, take, drop, Result, Ok, Err}
-use Rattle.qasm_parse.specs.declared.stmt.Stmt.{Stmt}
-use Rattle.qasm_parse.specs.declared.stmt.SyntaxFault.{SyntaxFault}
-use Rattle.qasm_parse.specs.declared.stmt.SyntaxFault.TheVariants.{Memory, At}
-use Rattle.qasm_parse.specs.Symbols.{Lexeme}
-use Rattle.qasm_parse.specs.Languages.{Language}
-use Rattle.qasm_parse.specs.Readers.{Reader, offset_of}
-use Rattle.qasm_parse.specs.Readings.{statement_at, version_at}
-use Rattle.qasm_parse.specs.Grammar.{Statement, Version}
+-- Which tokens are a statement, and where tokens begin none.
+use Rattle.std.specs.Prelude.{◌≡◌, ℕ, zero, suc, ◌-◌, ◌<◌, ◌≤◌, List, [], ◌∷◌, ◌++◌, length, take, drop}
+use Rattle.qasm_form.specs.declared.stmt.Stmt.{Stmt}
+use Rattle.qasm_form.specs.Symbols.{Lexeme}
+use Rattle.qasm_form.specs.Languages.{Language}
+use Rattle.qasm_form.specs.Grammar.{Statement, Version}
+
+-- The offset of the first token, or that of the source's end
+abbrev pub offset_of : ℕ → List Lexeme → ℕ
+offset_of end [] = end
+offset_of end (x ∷ rest) = x.at
 
 -- The version at place 0, and a statement at every other place.
 abbrev pub StatementAt : ℕ → Language Stmt
@@ -40,15 +41,3 @@ BeginsNone from front (x ∷ rest) = (more : List Lexeme) (statement : Stmt) →
 abbrev pub IsSyntaxFault : List Lexeme → ℕ → ℕ → ℕ → Type 0
 IsSyntaxFault tokens from end at =
     (front : List Lexeme) × (rest : List Lexeme) × (drop from tokens ≡ front ++ rest) × (at ≡ offset_of end rest) × Begins from front × BeginsNone from front rest
-
--- After an Ok the statement and the next place are these; after a fault at an offset, that is the fault; of want of
--- memory nothing more is said.
-abbrev pub IsAnswer : List Lexeme → ℕ → ℕ → Result (Stmt × ℕ) SyntaxFault → Type 0
-IsAnswer tokens from end (Ok r) = IsStatement tokens from r.0 r.1
-IsAnswer tokens from end (Err Memory) = Unit {0}
-IsAnswer tokens from end (Err (At at)) = IsSyntaxFault tokens from end at
-
--- the reader of a place.
-abbrev pub reading_at : ℕ → ℕ → Reader Stmt
-reading_at zero end = version_at end
-reading_at (suc place) end = statement_at end

@@ -1,7 +1,6 @@
 //! Statements as values. All but `Expr` are plain data: whoever has the parts may make one, and what their fields say of a
 //! source is said where they are read from it. `Expr` keeps the rules of an expression by itself, wherever it was made.
 
-use std::alloc::{AllocError, AllocFailed};
 use std::marker::Model;
 use zac_gates::{Bytes, List};
 
@@ -51,11 +50,11 @@ pub struct Expr {
 
 impl Model for Expr {
     ghost use Rattle.std.specs.Prelude.{List};
-    ghost use Rattle.qasm_parse.specs.declared.stmt.Node.{Node};
+    ghost use Rattle.qasm_form.specs.declared.stmt.Node.{Node};
 
     ghost Value = { List Node };
 
-    ghost use Rattle.qasm_parse.specs.Numbers.{IsExpression};
+    ghost use Rattle.qasm_form.specs.Numbers.{IsExpression};
 
     ghost view = { λ e. e.nodes };
 
@@ -65,8 +64,8 @@ impl Model for Expr {
 impl Expr {
     ghost use Rattle.std.specs.Prelude.{◌≡◌};
     ghost use Rattle.std.specs.List.{AllByRecursion};
-    ghost use Rattle.qasm_parse.specs.Numbers.{HasNumber};
-    ghost use Rattle.qasm_parse.specs.Postfix.{IsPostfix};
+    ghost use Rattle.qasm_form.specs.Numbers.{HasNumber};
+    ghost use Rattle.qasm_form.specs.Postfix.{IsPostfix};
 
     /// The nodes in postfix order. Each number's text is one digit or more, or a real.
     pub fn as_slice(&self) -> &[Node]
@@ -177,36 +176,4 @@ pub enum Stmt {
     If {
         at: u32,
     },
-}
-
-/// Why no statement is read.
-#[derive(Clone, Copy)]
-pub enum SyntaxFault {
-    /// Memory ran out.
-    Memory,
-    /// The offset of the first token with which the tokens so far begin no statement, or the source's length where
-    /// the tokens end before the statement does.
-    At { at: u32 },
-}
-
-impl From<AllocError> for SyntaxFault {
-    ghost use Rattle.std.specs.Prelude.{◌≡◌};
-    ghost use Rattle.qasm_parse.specs.declared.stmt.SyntaxFault.TheVariants.{Memory};
-
-    ghost from_gives = { λ _ e. e ≡ Memory };
-
-    fn from(_error: AllocError) -> SyntaxFault {
-        SyntaxFault::Memory
-    }
-}
-
-impl<T: Drop> From<AllocFailed<T>> for SyntaxFault {
-    ghost use Rattle.std.specs.Prelude.{◌≡◌};
-    ghost use Rattle.qasm_parse.specs.declared.stmt.SyntaxFault.TheVariants.{Memory};
-
-    ghost from_gives = { λ _ e. e ≡ Memory };
-
-    fn from(_error: AllocFailed<T>) -> SyntaxFault {
-        SyntaxFault::Memory
-    }
 }

@@ -1,7 +1,7 @@
 -- Nodes in postfix order: an operator has its operands before it.
 use Rattle.std.specs.Prelude.{◌≡◌, ℕ, zero, suc, List, [], ◌∷◌, Option, Some, None}
-use Rattle.qasm_parse.specs.declared.stmt.Node.{Node}
-use Rattle.qasm_parse.specs.declared.stmt.Node.TheVariants as node
+use Rattle.qasm_form.specs.declared.stmt.Node.{Node}
+use Rattle.qasm_form.specs.declared.stmt.Node.TheVariants as node
 
 -- an operator that takes one operand, or two, and leaves one: there have to be so many
 abbrev pub with_one : ℕ → (ℕ → Option ℕ) → Option ℕ

@@ -1,8 +1,8 @@
 -- Languages: which lists of tokens stand for which values, and how languages are joined.
 use Rattle.std.specs.Prelude.{◌≡◌, ◌⊎◌, List, [], ◌∷◌, ◌++◌, Option, Some}
-use Rattle.qasm_parse.specs.declared.symbol.Symbol.{Symbol}
-use Rattle.qasm_parse.specs.declared.symbol.Symbol.TheVariants.{Comma}
-use Rattle.qasm_parse.specs.Symbols.{Lexeme}
+use Rattle.qasm_form.specs.declared.symbol.Symbol.{Symbol}
+use Rattle.qasm_form.specs.declared.symbol.Symbol.TheVariants.{Comma}
+use Rattle.qasm_form.specs.Symbols.{Lexeme}
 
 -- Which lists of tokens stand for which values.
 abbrev pub Language : Type 0 → Type 1

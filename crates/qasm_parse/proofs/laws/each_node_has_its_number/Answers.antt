@@ -1,5 +1,0 @@
-use Rattle.qasm_parse.proofs.NumberBytes.{node_number}
-use Rattle.qasm_parse.proofs.laws.each_node_has_its_number.Goals as goal
-
-pub returns : goal.returns
-returns c = node_number

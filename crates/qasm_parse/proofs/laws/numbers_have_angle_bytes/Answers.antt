@@ -1,5 +1,0 @@
-use Rattle.qasm_parse.proofs.NumberBytes.{number_fits}
-use Rattle.qasm_parse.proofs.laws.numbers_have_angle_bytes.Goals as goal
-
-pub returns : goal.returns
-returns c = number_fits
