@@ -7,3 +7,6 @@ pub mod JudgedLemmas
 pub mod HeaderReadingLemmas
 pub mod FineLemmas
 pub mod HeaderLaws
+pub mod Deciding
+pub mod Judging
+pub mod Accepting

@@ -15,7 +15,9 @@ mod parts;
 pub mod scope;
 
 pub use header::header_text;
-pub use laws::one_header;
+pub use laws::{
+    each_program_is_accepted_or_refused, one_header, one_judgement, tokens_go_to_the_end_or_stop,
+};
 pub use qasm_names::{
     Bound, GateDef, ScopeFault, ScopeKind, SourceProgram, Target, gates_are_well_bound,
     gates_only_grow,
