@@ -1,5 +1,5 @@
 -- The acts of a plan: their steps are legal one after another, each may stand in a program, and each move goes somewhere.
-use Rattle.std.proofs.Common.{◌≡◌, ◌≢◌, ℕ, ◌+◌, ◌<◌, ◌≤◌, Bool, not, ◌&&◌, List, [], ◌∷◌, ◌++◌, Option, Some, None, IsTrue, length, get_or, set, refl, sym, ap, ◌∙◌, subst, arith, map, slice_get}
+use Rattle.std.proofs.Common.{◌≡◌, ℕ, ◌<◌, ◌≤◌, Bool, not, ◌&&◌, List, [], ◌∷◌, ◌++◌, Option, Some, None, IsTrue, length, get_or, set, refl, sym, ap, ◌∙◌, subst, arith, map, slice_get}
 use Rattle.std.specs.List.{AllByRecursion, Contains, cons_option, flat_map, filter_map, list_all, range_with_len}
 use Rattle.std.specs.Option.{option_and_then}
 use Rattle.std.proofs.lemmas.Bool.{and_from, and_parts}
@@ -21,7 +21,7 @@ use Rattle.zair_form.specs.declared.step.OneGate.{OneGate}
 use Rattle.zair_form.specs.declared.step.PairOf.{PairOf}
 use Rattle.zair_form.specs.declared.step.ReadOf.{ReadOf}
 use Rattle.zair_form.specs.declared.step.Step.{Step}
-use Rattle.zair_form.specs.declared.step.Step.TheVariants.{One, Pulse}
+use Rattle.zair_form.specs.declared.step.Step.TheVariants.{One}
 use Rattle.zair_machine.specs.Chain.{EachGoesSomewhere, MovesGoSomewhere}
 use Rattle.zair_machine.specs.Legal.{Rests}
 use Rattle.zair_machine.specs.State.{opening}
@@ -200,9 +200,11 @@ module _ (a : Architecture) (rules : KeepsRules a) (n : ℕ) (fit : n ≤ storag
       let from_pulse : IsPart a (placed a n pairs) (Rydberg pairs ∷ behind) (placed a n rest.0) =
       part_append a (placed a n pairs) (placed a n pairs) (placed a n rest.0) (Rydberg pairs ∷ []) behind (pulse_part pairs later.0) rest.1 in
       let from_arrivals = part_append a (homes_for n) (placed a n pairs) (placed a n rest.0) (carries a (arrivals a pairs)) (Rydberg pairs ∷ behind) (arrivals_part pairs later.0) from_pulse in
-      let from_returns = part_append a (placed a n before) (homes_for n) (placed a n rest.0) (carries a (returns a before)) (carries a (arrivals a pairs) ++ Rydberg pairs ∷ behind) (returns_part before here) from_arrivals in
-      (rest.0, part_append a (placed a n before) (placed a n before) (placed a n rest.0) (gates_act (gates_at ops slot))
-          (carries a (returns a before) ++ (carries a (arrivals a pairs) ++ Rydberg pairs ∷ behind)) (slot_part before slot) from_returns)
+      let from_returns = part_append a (placed a n before) (homes_for n) (placed a n rest.0) (carries a (returns a before)) (carries a (arrivals a pairs) ++ Rydberg pairs ∷ behind) (returns_part before here) from_arrivals in (
+        rest.0,
+        part_append a (placed a n before) (placed a n before) (placed a n rest.0) (gates_act (gates_at ops slot))
+            (carries a (returns a before) ++ (carries a (arrivals a pairs) ++ Rydberg pairs ∷ behind)) (slot_part before slot) from_returns,
+      )
 
   -- no pair is at the sites at first
   none_placed : IsPulse a n []

@@ -1,5 +1,5 @@
 -- Facts on what lists contain, and on an element that is written and read.
-use Rattle.std.proofs.Common.{◌≡◌, ◌≢◌, ℕ, zero, suc, ◌+◌, ◌<◌, ◌≤◌, ◌⊎◌, inl, inr, Bool, true, cond, List, [], ◌∷◌, ◌++◌, Option, Some, None, length, get_or, set, map, refl, sym, ap, ◌∙◌, subst, arith, slice_get}
+use Rattle.std.proofs.Common.{◌≡◌, ◌≢◌, ℕ, zero, suc, ◌+◌, ◌<◌, ◌≤◌, ◌⊎◌, inl, inr, Bool, true, cond, List, [], ◌∷◌, ◌++◌, Some, length, get_or, set, map, refl, sym, ap, ◌∙◌, subst, arith, slice_get}
 use Rattle.std.specs.List.{All, AllByRecursion, AllPairs, AllAdjacentBelow, Any, Contains, filter, range_with_len}
 use Rattle.std.proofs.lemmas.Bool.{cases_Bool, cases_eq}
 use Rattle.std.proofs.lemmas.List.Elements.{All-cons, All-nil, All-contains, Contains-get_or, Contains-append_cases}
@@ -138,8 +138,8 @@ pairs_map R f [] h = pairs_none R
 pairs_map {X} {Y} R f (x ∷ xs) h =
     pairs_cons R (f x) (map f xs)
     (λ y in_map.
-        let behind = contained_in_map f xs y in_map in
-        subst (R (f x)) behind.2 (pairs_head (λ (u v : X). R (f u) (f v)) x xs h behind.0 behind.1))
+    let behind = contained_in_map f xs y in_map in
+    subst (R (f x)) behind.2 (pairs_head (λ (u v : X). R (f u) (f v)) x xs h behind.0 behind.1))
     (pairs_map R f xs (pairs_tail (λ (u v : X). R (f u) (f v)) x xs h))
 
 -- two lists one after the other

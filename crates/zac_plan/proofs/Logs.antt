@@ -1,12 +1,10 @@
 -- The log of a plan: the entries of the ops of its slots and pulses in turn, and then of the reads.
-use Rattle.std.proofs.Common.{◌≡◌, ◌≢◌, ℕ, ◌+◌, Bool, true, false, cond, List, [], ◌∷◌, ◌++◌, Option, Some, None, IsTrue, length, refl, sym, ap, ◌∙◌, subst, map, append_assoc, append-nil, slice_get}
-use Rattle.std.specs.List.{AllByRecursion, AllPairs, Contains, cons_option, filter, filter_map, flat_map, range_with_len}
+use Rattle.std.proofs.Common.{◌≡◌, ℕ, Bool, true, false, cond, List, [], ◌∷◌, ◌++◌, Option, Some, None, IsTrue, length, refl, sym, ap, ◌∙◌, map, append-nil, slice_get}
+use Rattle.std.specs.List.{AllByRecursion, cons_option, filter, filter_map, flat_map, range_with_len}
 use Rattle.std.specs.Option.{option_and_then, option_map}
 use Rattle.std.proofs.lemmas.Grind.{flat_map-append}
-use Rattle.std.proofs.lemmas.List.{map-append}
 use Rattle.std.proofs.lemmas.List.Elements.{filter_map-append}
 use Rattle.zac_arch.specs.Architecture.{Architecture}
-use Rattle.zac_gates.specs.Ops.{is_read}
 use Rattle.zac_gates.specs.Log.{Entry}
 use Rattle.zac_gates.specs.declared.circuit.Op.{Op}
 use Rattle.zac_gates.specs.declared.circuit.Op.TheVariants as op

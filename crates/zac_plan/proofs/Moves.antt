@@ -1,29 +1,17 @@
 -- In the move of a carry a beam goes somewhere, on every card.
-use Rattle.std.proofs.Common.{◌≡◌, ◌≢◌, ℕ, ◌+◌, ◌<◌, ◌≤◌, inl, inr, min, max, Option, Some, None, List, [], ◌∷◌, ◌++◌, map, ap, sym, ◌∙◌, subst, arith}
-use Rattle.std.specs.List.{AllByRecursion}
+use Rattle.std.proofs.Common.{◌≡◌, ◌≢◌, ℕ, ◌+◌, ◌<◌, inl, inr, min, Some, ap, ◌∙◌, arith}
 use Rattle.std.proofs.lemmas.Bool.{cases_lt}
 use Rattle.std.proofs.lemmas.Option.{slice_get-get_or}
-use Rattle.zac_arch.specs.Architecture.{Architecture, trap_points, trap_count, storage_count}
+use Rattle.zac_arch.specs.Architecture.{Architecture, trap_points, trap_count}
 use Rattle.zac_arch.specs.Distances.{difference}
 use Rattle.zac_arch.specs.Rules.{KeepsRules}
 use Rattle.zac_arch.specs.declared.place.Point.{Point}
 use Rattle.zac_arch.specs.declared.place.TrapId.{TrapId}
-use Rattle.zac_arch.proofs.Geometry.{trap_count_is, site_count_least, one_trap}
-use Rattle.zac_gates.specs.Ops.{NativeCircuit, IsInRange}
-use Rattle.zac_gates.specs.declared.circuit.Op.{Op}
-use Rattle.zac_gates.specs.declared.circuit.Op.TheVariants as op
-use Rattle.zair_form.specs.declared.step.OneGate.{OneGate}
-use Rattle.zair_form.specs.declared.step.ReadOf.{ReadOf}
-use Rattle.zair_form.specs.declared.program.Act.{Act}
-use Rattle.zair_form.specs.declared.program.Act.TheVariants.{Rydberg}
-use Rattle.zair_form.specs.declared.program.Instr.{Instr}
+use Rattle.zac_arch.proofs.Geometry.{one_trap}
 use Rattle.zair_form.specs.Times.{greatest_change}
 use Rattle.zac_plan.specs.declared.shift.Shift.{Shift}
 use Rattle.zac_plan.specs.Plan.{point_at, carrier, carry}
-use Rattle.zair_form.specs.declared.step.Step.{Step}
-use Rattle.zair_form.specs.declared.step.Step.TheVariants.{One}
-use Rattle.zair_machine.specs.Chain.{EachGoesSomewhere, MovesGoSomewhere}
-use Rattle.zac_plan.proofs.Lists.{all-append}
+use Rattle.zair_machine.specs.Chain.{MovesGoSomewhere}
 
 -- a beam that gets another position goes somewhere
 pub carrier_change : (x y : ℕ) → greatest_change (carrier x) (carrier y) ≡ min 1000000 (difference x y)
@@ -54,4 +42,3 @@ point_at-apart a rules t u t_in u_in differ same =
     let there = slice_get-get_or (trap_points a) t.0 (record { x = 0; y = 0 }) t_in in
     let here = slice_get-get_or (trap_points a) u.0 (record { x = 0; y = 0 }) u_in in
     differ (one_trap a rules t.0 u.0 (point_at a u) (there ∙ ap (λ (p : Point). Some p) same) here)
-

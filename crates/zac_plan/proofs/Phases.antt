@@ -1,5 +1,5 @@
 -- Phases: shifts one after another lead from one state at rest to the next.
-use Rattle.std.proofs.Common.{◌≡◌, ◌≢◌, ℕ, ◌<◌, ◌⊎◌, inl, inr, List, [], ◌∷◌, ◌++◌, Some, get_or, set, map, refl, sym, ap, ◌∙◌, subst, arith, slice_get}
+use Rattle.std.proofs.Common.{◌≡◌, ◌≢◌, ℕ, ◌⊎◌, inl, inr, List, [], ◌∷◌, ◌++◌, Some, get_or, set, map, refl, sym, ap, ◌∙◌, subst, arith, slice_get}
 use Rattle.std.specs.List.{AllPairs, Contains, flat_map}
 use Rattle.std.proofs.lemmas.Bool.{cases_eq}
 use Rattle.std.proofs.lemmas.List.Elements.{Contains-get_or}
@@ -179,8 +179,8 @@ module _ (a : Architecture) (traps : List TrapId) (shifts : List Shift) (apart :
     | inr none ↦
         after_shifts-other (after_shifts traps shifts) (map back shifts) k
         (λ u listed e.
-            let behind = contained_in_map back shifts u listed in
-            none behind.0 behind.1 (ap (λ (x : Shift). x.q) behind.2 ∙ e))
+        let behind = contained_in_map back shifts u listed in
+        none behind.0 behind.1 (ap (λ (x : Shift). x.q) behind.2 ∙ e))
         ∙ after_shifts-other traps shifts k none
   ]
 

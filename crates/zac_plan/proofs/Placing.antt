@@ -1,9 +1,9 @@
 -- Where the atoms rest while a pulse's pairs are at the sites.
-use Rattle.std.proofs.Common.{◌≡◌, ◌≢◌, ℕ, ◌+◌, ◌*◌, ◌<◌, ◌≤◌, ◌⊎◌, inl, inr, List, [], ◌∷◌, Some, length, map, refl, sym, ap, ◌∙◌, subst, arith, slice_get}
+use Rattle.std.proofs.Common.{◌≡◌, ℕ, ◌+◌, ◌*◌, ◌<◌, ◌≤◌, ◌⊎◌, inl, inr, List, [], ◌∷◌, Some, length, refl, sym, ap, ◌∙◌, subst, arith, slice_get}
 use Rattle.std.specs.List.{All, Contains}
 use Rattle.std.proofs.lemmas.List.FromFn.{length-map-range_with_len, get_or-map-range_with_len}
 use Rattle.std.proofs.lemmas.Option.{slice_get_within, slice_get-get_or}
-use Rattle.zac_arch.specs.Architecture.{Architecture, trap_count, storage_count, site_count, left_trap, right_trap}
+use Rattle.zac_arch.specs.Architecture.{Architecture, storage_count, site_count}
 use Rattle.zac_arch.specs.Rules.{KeepsRules}
 use Rattle.zac_arch.specs.declared.place.TrapId.{TrapId}
 use Rattle.zac_arch.proofs.Geometry.{trap_count_is}
@@ -11,7 +11,7 @@ use Rattle.zair_form.specs.declared.step.PairOf.{PairOf}
 use Rattle.zair_form.specs.declared.step.Step.TheVariants.{Pulse}
 use Rattle.zac_plan.specs.declared.shift.Shift.{Shift}
 use Rattle.zac_plan.specs.Growth.{HasTraps}
-use Rattle.zac_plan.specs.Plan.{home, homes_for, left, right, left_qubit, right_qubit, to_sites, by_qubit, arrivals, returns}
+use Rattle.zac_plan.specs.Plan.{home, homes_for, left, right, left_qubit, right_qubit, to_sites, arrivals, returns}
 use Rattle.zac_plan.proofs.Lists.{all_from_contains, contains_at}
 use Rattle.zac_plan.proofs.Phases.{IsPhase, RestApart, after_shifts, after_shifts-other, after_shifts-there, named_or_not, phase_back, all_back}
 use Rattle.zac_plan.proofs.Pulse.{AreSeated, IsSeated, pulse_rests}
@@ -49,8 +49,8 @@ pub record IsArrival (a : Architecture) (n : ℕ) (pairs : List PairOf) (s : Shi
 
 -- a pair's left or right qubit is one of its two
 one_side : (a : Architecture) (p : PairOf) (q : ℕ) → (q ≡ left_qubit a p) ⊎ (q ≡ right_qubit a p) → (p.a ≡ q) ⊎ (p.b ≡ q)
-one_side a p q (inl e) = elim (sides a p) [ | inl h ↦ inl (sym (e ∙ h.0)) | inr h ↦ inr (sym (e ∙ h.0)) ]
-one_side a p q (inr e) = elim (sides a p) [ | inl h ↦ inr (sym (e ∙ h.1)) | inr h ↦ inl (sym (e ∙ h.1)) ]
+one_side a p q (inl e) = elim (sides a p) [ inl h ↦ inl (sym (e ∙ h.0)) | inr h ↦ inr (sym (e ∙ h.0)) ]
+one_side a p q (inr e) = elim (sides a p) [ inl h ↦ inr (sym (e ∙ h.1)) | inr h ↦ inl (sym (e ∙ h.1)) ]
 
 module _ (a : Architecture) (n : ℕ) (pairs : List PairOf) (pulse : IsPulse a n pairs) where
   is_arrival : (s : Shift) → Contains (arrivals a pairs) s → IsArrival a n pairs s
@@ -70,8 +70,8 @@ module _ (a : Architecture) (n : ℕ) (pairs : List PairOf) (pulse : IsPulse a n
         of = of;
         below = below;
         from = source_of a (0 + of.place) p s of.is;
-        least = elim (target_of a (0 + of.place) p s of.is) as (λ _. storage_count a ≤ s.to.0) [ | inl e ↦ omega arith | inr e ↦ omega arith ];
-        most = elim (target_of a (0 + of.place) p s of.is) as (λ _. s.to.0 < storage_count a + 2 * site_count a) [ | inl e ↦ omega arith | inr e ↦ omega arith ];
+        least = elim (target_of a (0 + of.place) p s of.is) as (λ _. storage_count a ≤ s.to.0) [ inl e ↦ omega arith | inr e ↦ omega arith ];
+        most = elim (target_of a (0 + of.place) p s of.is) as (λ _. s.to.0 < storage_count a + 2 * site_count a) [ inl e ↦ omega arith | inr e ↦ omega arith ];
       }
 
 module _ (a : Architecture) (rules : KeepsRules a) (n : ℕ) (fit : n ≤ storage_count a) (pairs : List PairOf) (pulse : IsPulse a n pairs) where

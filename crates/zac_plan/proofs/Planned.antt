@@ -1,9 +1,9 @@
 -- The whole plan of a circuit, round by round.
-use Rattle.std.proofs.Common.{◌≡◌, ◌≢◌, ℕ, zero, suc, ◌+◌, ◌*◌, ◌<◌, ◌≤◌, List, [], ◌∷◌, ◌++◌, Option, Some, None, length, drop, slice_get, append_assoc, append-nil, refl, sym, ap, ◌∙◌, subst, arith, map}
-use Rattle.std.specs.List.{All, AllByRecursion, AllPairs, Contains, range_with_len}
+use Rattle.std.proofs.Common.{◌≡◌, ◌≢◌, ℕ, zero, suc, ◌+◌, ◌*◌, ◌<◌, ◌≤◌, List, [], ◌∷◌, ◌++◌, Some, length, drop, slice_get, append_assoc, append-nil, refl, sym, ap, ◌∙◌, subst, arith, map}
+use Rattle.std.specs.List.{All, AllByRecursion, AllPairs, range_with_len}
 use Rattle.std.proofs.lemmas.List.{drop_all}
 use Rattle.std.proofs.lemmas.List.FromFn.{length-map-range_with_len}
-use Rattle.zac_arch.specs.Architecture.{Architecture, site_count, storage_count, trap_count}
+use Rattle.zac_arch.specs.Architecture.{Architecture, site_count, storage_count}
 use Rattle.zac_arch.specs.Rules.{KeepsRules}
 use Rattle.zac_arch.specs.declared.place.TrapId.{TrapId}
 use Rattle.zac_arch.proofs.Geometry.{storage_count_most, trap_count_is}
@@ -19,9 +19,9 @@ use Rattle.zair_machine.specs.Chain.{IsChain, end_of}
 use Rattle.zac_plan.specs.declared.shift.Shift.{Shift}
 use Rattle.zac_plan.specs.declared.timeline.Timeline.{Timeline}
 use Rattle.zac_plan.specs.Growth.{ActsFit, GoesOn, HasHomes, HasTraps, IsStagingOf}
-use Rattle.zac_plan.specs.Plan.{acts_from, arrivals, back, carries, gates_act, gates_at, home, homes_for, pairs_at, plan, reads_act, reads_in, returns, to_sites}
+use Rattle.zac_plan.specs.Plan.{acts_from, arrivals, back, carries, gates_act, gates_at, home, homes_for, pairs_at, plan, reads_act, reads_in, to_sites}
 use Rattle.zac_plan.proofs.Counting.{size, gates_most, pairs_most}
-use Rattle.zac_plan.proofs.Growing.{goes_nowhere, goes_on_append, goes_on_same}
+use Rattle.zac_plan.proofs.Growing.{goes_nowhere, goes_on_append}
 use Rattle.zac_plan.proofs.Lists.{all_from_contains, contained_in_filter, contained_in_range}
 use Rattle.zac_plan.proofs.Seats.{IsPulse, atoms_apart}
 use Rattle.zac_plan.proofs.Staged.{pulses_fit}
@@ -116,8 +116,8 @@ module _ (a : Architecture) (c : NativeCircuit) (s : Staging) (rules : KeepsRule
   pulse_homes t numbers at =
       all_from_contains (HasHomes a) (pairs_at c.ops numbers)
       (λ p listed.
-          let each = (fits_at t numbers at).each p listed in
-          (omega (arith, trap_count_is a rules, each.0), omega (arith, trap_count_is a rules, each.1)))
+      let each = (fits_at t numbers at).each p listed in
+      (omega (arith, trap_count_is a rules, each.0), omega (arith, trap_count_is a rules, each.1)))
 
   pub pulse_apart : (t : ℕ) (numbers : List ℕ) → slice_get s.pairs t ≡ Some numbers → AllPairs (λ (x y : Shift). x.q ≢ y.q) (to_sites a 0 (pairs_at c.ops numbers))
   pulse_apart t numbers at =

@@ -1,22 +1,17 @@
 -- The arrivals of a pulse: where each of its atoms goes, and in which order.
-use Rattle.std.proofs.Common.{◌≡◌, ◌≢◌, ℕ, zero, suc, ◌+◌, ◌*◌, ◌<◌, ◌≤◌, ◌⊎◌, inl, inr, Bool, true, false, cond, List, [], ◌∷◌, ◌++◌, Option, Some, None, length, get_or, take, refl, sym, ap, ◌∙◌, subst, append_assoc, arith, slice_get}
-use Rattle.std.specs.List.{All, AllPairs, Contains}
-use Rattle.std.proofs.lemmas.Bool.{cases_Bool}
-use Rattle.std.proofs.lemmas.List.FromFn.{length-map-range_with_len, get_or-map-range_with_len}
+use Rattle.std.proofs.Common.{◌≡◌, ◌≢◌, ℕ, zero, suc, ◌+◌, ◌*◌, ◌<◌, ◌≤◌, ◌⊎◌, inl, inr, Bool, true, false, cond, List, [], ◌∷◌, ◌++◌, Some, length, get_or, take, refl, sym, ap, ◌∙◌, subst, append_assoc, arith, slice_get}
+use Rattle.std.specs.List.{AllPairs, Contains}
 use Rattle.std.proofs.lemmas.List.{length-take-le, take_more}
 use Rattle.std.proofs.lemmas.Option.{slice_get_within}
-use Rattle.zac_arch.specs.Architecture.{Architecture, trap_count, storage_count, site_count, left_trap, right_trap}
+use Rattle.zac_arch.specs.Architecture.{Architecture, trap_count, site_count, left_trap, right_trap}
 use Rattle.zac_arch.specs.Rules.{KeepsRules}
 use Rattle.zac_arch.specs.declared.place.TrapId.{TrapId}
 use Rattle.zac_arch.proofs.Geometry.{trap_count_is}
 use Rattle.zair_form.specs.declared.step.PairOf.{PairOf}
 use Rattle.zac_plan.specs.declared.shift.Shift.{Shift}
 use Rattle.zac_plan.specs.Growth.{HasTraps}
-use Rattle.zac_plan.specs.Plan.{home, homes_for, left, right, comes_before, left_qubit, right_qubit, to_sites, with_shift, by_qubit, arrivals}
-use Rattle.zac_plan.proofs.Lists.{contained_in_none, contains_cases, contains_here, contains_later, contains_at, pairs_head, pairs_tail, pairs_none, pairs_cons, all_from_contains}
-use Rattle.zac_plan.proofs.Phases.{IsPhase, RestApart, after_shifts, after_shifts-other, after_shifts-there, named_or_not}
-use Rattle.zac_plan.proofs.Pulse.{AreSeated, IsSeated}
-use Rattle.zac_plan.proofs.Rests.{CanShift}
+use Rattle.zac_plan.specs.Plan.{home, left, right, comes_before, left_qubit, right_qubit, to_sites}
+use Rattle.zac_plan.proofs.Lists.{contained_in_none, contains_cases, contains_here, contains_later, contains_at, pairs_head, pairs_tail, pairs_none, pairs_cons}
 
 -- the two shifts of a pair
 abbrev pub goes_left : Architecture → ℕ → PairOf → Shift
@@ -152,9 +147,9 @@ atoms_apart a n site [] each apart = pairs_none (λ (s t : Shift). s.q ≢ t.q)
 atoms_apart a n site (p ∷ ps) each apart =
     let later : (s : Shift) → Contains (to_sites a (site + 1) ps) s → (left_qubit a p ≢ s.q) × (right_qubit a p ≢ s.q) =
     λ s listed.
-        let of = of_pair a (site + 1) ps s listed in
-        let from = pairs_head AreApart p ps apart of.pair (pair_contained ps of.place of.pair of.at) in
-        other_pair a p of.pair from s.q (qubit_of a ((site + 1) + of.place) of.pair s of.is) in
+    let of = of_pair a (site + 1) ps s listed in
+    let from = pairs_head AreApart p ps apart of.pair (pair_contained ps of.place of.pair of.at) in
+    other_pair a p of.pair from s.q (qubit_of a ((site + 1) + of.place) of.pair s of.is) in
     let rest = atoms_apart a n (site + 1) ps (λ q in_rest. each q (contains_later p q ps in_rest)) (pairs_tail AreApart p ps apart) in
     pairs_cons (λ (s t : Shift). s.q ≢ t.q) (goes_left a site p) (goes_right a site p ∷ to_sites a (site + 1) ps)
     (λ s listed. elim (contains_cases (goes_right a site p) s (to_sites a (site + 1) ps) listed) as (λ _. left_qubit a p ≢ s.q) [
@@ -169,11 +164,11 @@ targets_apart a site [] = pairs_none (λ (s t : Shift). s.to ≢ t.to)
 targets_apart a site (p ∷ ps) =
     let later : (s : Shift) → Contains (to_sites a (site + 1) ps) s → right_trap a site < s.to.0 =
     λ s listed.
-        let of = of_pair a (site + 1) ps s listed in
-        elim (target_of a ((site + 1) + of.place) of.pair s of.is) as (λ _. right_trap a site < s.to.0) [
-          | inl e ↦ omega arith
-          | inr e ↦ omega arith
-        ] in
+    let of = of_pair a (site + 1) ps s listed in
+    elim (target_of a ((site + 1) + of.place) of.pair s of.is) as (λ _. right_trap a site < s.to.0) [
+      | inl e ↦ omega arith
+      | inr e ↦ omega arith
+    ] in
     pairs_cons (λ (s t : Shift). s.to ≢ t.to) (goes_left a site p) (goes_right a site p ∷ to_sites a (site + 1) ps)
     (λ s listed e. elim (contains_cases (goes_right a site p) s (to_sites a (site + 1) ps) listed) as (λ _. ⊥) [
       | inl same ↦
@@ -185,8 +180,8 @@ targets_apart a site (p ∷ ps) =
     ])
     (pairs_cons (λ (s t : Shift). s.to ≢ t.to) (goes_right a site p) (to_sites a (site + 1) ps)
     (λ s listed e.
-        let to : right_trap a site ≡ s.to.0 = ap (λ (t : TrapId). t.0) e in
-        absurd (omega (arith, later s listed)))
+    let to : right_trap a site ≡ s.to.0 = ap (λ (t : TrapId). t.0) e in
+    absurd (omega (arith, later s listed)))
     (targets_apart a (site + 1) ps))
 
 pub length-to_sites : (a : Architecture) (site : ℕ) (pairs : List PairOf) → length (to_sites a site pairs) ≡ 2 * length pairs

@@ -1,5 +1,5 @@
 -- Shifts by rising qubit.
-use Rattle.std.proofs.Common.{◌≡◌, ◌≢◌, ℕ, zero, suc, ◌+◌, ◌<◌, ◌≤◌, ◌⊎◌, inl, inr, Bool, true, false, cond, List, [], ◌∷◌, Some, length, get_or, refl, sym, ap, ◌∙◌, subst, arith, slice_get, nat_lt}
+use Rattle.std.proofs.Common.{◌≡◌, ◌≢◌, ℕ, ◌<◌, ◌≤◌, ◌⊎◌, inl, inr, cond, List, [], ◌∷◌, length, get_or, refl, sym, ap, ◌∙◌, subst, arith, nat_lt}
 use Rattle.std.specs.List.{AllPairs, Contains, swap}
 use Rattle.std.specs.List.Sorted.{IsPermutation, IsNonDecreasingBy}
 use Rattle.std.proofs.lemmas.Bool.{cases_Bool, cases_eq, cases_lt, ltb-true, ltb-false}
@@ -107,11 +107,11 @@ with_rises s (t ∷ ts) differ rises =
       | inl below ↦ subst (λ b. Rising (cond b (s ∷ t ∷ ts) (t ∷ with_shift s ts))) (sym below)
           (pairs_cons (λ (x y : Shift). x.q < y.q) s (t ∷ ts)
           (λ u listed.
-              let less : s.q < t.q = ltb-true s.q t.q below in
-              elim (contains_cases t u ts listed) as (λ _. s.q < u.q) [
-                | inl e ↦ subst (λ (x : Shift). s.q < x.q) e less
-                | inr later ↦ omega (arith, pairs_head (λ (x y : Shift). x.q < y.q) t ts rises u later)
-              ])
+          let less : s.q < t.q = ltb-true s.q t.q below in
+          elim (contains_cases t u ts listed) as (λ _. s.q < u.q) [
+            | inl e ↦ subst (λ (x : Shift). s.q < x.q) e less
+            | inr later ↦ omega (arith, pairs_head (λ (x y : Shift). x.q < y.q) t ts rises u later)
+          ])
           rises)
       | inr above ↦ subst (λ b. Rising (cond b (s ∷ t ∷ ts) (t ∷ with_shift s ts))) (sym above)
           (pairs_cons (λ (x y : Shift). x.q < y.q) t (with_shift s ts)

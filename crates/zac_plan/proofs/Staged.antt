@@ -1,20 +1,20 @@
 -- The pulses of a circuit's stages fit the card.
-use Rattle.std.proofs.Common.{◌≡◌, ◌≢◌, ℕ, zero, suc, ◌+◌, ◌<◌, ◌≤◌, ◌⊎◌, inl, inr, List, [], ◌∷◌, Option, Some, None, IsTrue, length, map, refl, sym, ap, ◌∙◌, subst, arith, slice_get}
+use Rattle.std.proofs.Common.{◌≡◌, ℕ, zero, suc, ◌+◌, ◌<◌, ◌≤◌, inl, inr, List, [], ◌∷◌, Option, Some, None, length, map, refl, sym, ap, subst, arith, slice_get}
 use Rattle.std.specs.Prelude.{slice_index}
-use Rattle.std.specs.List.{AllByRecursion, AllPairs, Contains, cons_option, filter_map, range_with_len}
+use Rattle.std.specs.List.{AllByRecursion, AllPairs, Contains, cons_option, range_with_len}
 use Rattle.std.specs.Option.{option_and_then}
 use Rattle.zac_arch.specs.Architecture.{Architecture, site_count}
 use Rattle.zac_gates.specs.Ops.{NativeCircuit, IsInRange, IsValid, MustFollow, Names}
 use Rattle.zac_gates.specs.declared.circuit.Op.{Op}
 use Rattle.zac_gates.specs.declared.circuit.Op.TheVariants.{One, Two, Fence, Read}
 use Rattle.zac_stage.specs.Numbers.{is_pair, NumbersFollow}
-use Rattle.zac_stage.specs.Staging.{Staging, IsStaging}
+use Rattle.zac_stage.specs.Staging.{Staging}
 use Rattle.zair_form.specs.declared.step.PairOf.{PairOf}
 use Rattle.zac_plan.specs.Growth.{IsStagingOf}
 use Rattle.zac_plan.specs.Plan.{pair_of, pairs_at}
 use Rattle.zac_plan.proofs.Lists.{contained_in_none, contains_cases, contains_here, contains_later, pairs_cons, pairs_head, pairs_none, pairs_tail}
 use Rattle.zac_plan.proofs.Seats.{AreApart, IsPulse}
-use Rattle.zac_plan.proofs.Turns.{IsInPulse, pulse, in_pulse, pulse_rises}
+use Rattle.zac_plan.proofs.Turns.{pulse, in_pulse, pulse_rises}
 
 -- a pair at these numbers is the op of one of them
 pub record IsPairAt (ops : List Op) (numbers : List ℕ) (p : PairOf) : Type 0 where
@@ -57,8 +57,8 @@ module _ (ops : List Op) (R : ℕ → ℕ → Type 0) (apart : (n m : ℕ) (p q 
   apart_cons n ns (Some (Two a b)) at first rest =
       pairs_cons AreApart (record { op = n; a = a; b = b }) (pairs_at ops ns)
       (λ q listed.
-          let is = pair_at ops ns q listed in
-          apart n q.op (record { op = n; a = a; b = b }) q (first q.op is.number) at is.at)
+      let is = pair_at ops ns q listed in
+      apart n q.op (record { op = n; a = a; b = b }) q (first q.op is.number) at is.at)
       rest
   apart_cons n ns (Some Fence) at first rest = rest
   apart_cons n ns (Some (Read q bit)) at first rest = rest

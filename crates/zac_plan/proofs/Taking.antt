@@ -1,16 +1,13 @@
 -- One op more of a slot, of a pulse, or of the reads.
-use Rattle.std.proofs.Common.{◌≡◌, ℕ, zero, suc, ◌+◌, ◌<◌, List, [], ◌∷◌, ◌++◌, Option, Some, None, length, get_or, take, map, refl, sym, ap, ◌∙◌, append-nil, arith, slice_get}
-use Rattle.std.specs.List.{AllByRecursion, cons_option, filter_map, range_with_len}
+use Rattle.std.proofs.Common.{◌≡◌, ℕ, zero, suc, ◌+◌, ◌<◌, List, [], ◌∷◌, ◌++◌, Option, Some, None, length, get_or, take, refl, sym, ap, ◌∙◌, append-nil, arith, slice_get}
+use Rattle.std.specs.List.{cons_option, filter_map, range_with_len}
 use Rattle.std.specs.Option.{option_and_then}
 use Rattle.std.proofs.lemmas.List.{take_more}
 use Rattle.std.proofs.lemmas.List.Elements.{filter_map-append}
 use Rattle.zac_gates.specs.declared.angle.Angles.{Angles}
 use Rattle.zac_gates.specs.declared.circuit.Op.{Op}
 use Rattle.zac_gates.specs.declared.circuit.Op.TheVariants.{One, Two, Fence, Read}
-use Rattle.zair_form.specs.declared.step.OneGate.{OneGate}
-use Rattle.zair_form.specs.declared.step.PairOf.{PairOf}
-use Rattle.zair_form.specs.declared.step.ReadOf.{ReadOf}
-use Rattle.zac_plan.specs.Plan.{gate_of, pair_of, read_of, gates_at, pairs_at}
+use Rattle.zac_plan.specs.Plan.{gate_of, pair_of, read_of}
 
 -- one item more that a map may leave out
 taken_more : {Y : Type 0} (h : ℕ → Option Y) (numbers : List ℕ) (k : ℕ) → k < length numbers →

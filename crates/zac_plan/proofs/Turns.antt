@@ -1,7 +1,7 @@
 -- The ops of a plan are performed by rising keys, and so its log realises the circuit.
-use Rattle.std.proofs.Common.{◌≡◌, ◌≢◌, ℕ, zero, suc, ◌+◌, ◌*◌, ◌<◌, ◌≤◌, ◌⊎◌, inl, inr, ◌==◌, ◌&&◌, Bool, true, false, List, [], ◌∷◌, ◌++◌, Option, Some, None, IsTrue, length, get_or, map, refl, sym, ap, ◌∙◌, subst, arith, slice_get}
+use Rattle.std.proofs.Common.{◌≡◌, ◌≢◌, ℕ, zero, suc, ◌+◌, ◌*◌, ◌<◌, ◌≤◌, ◌⊎◌, inl, inr, ◌==◌, true, false, List, [], ◌∷◌, ◌++◌, Option, Some, None, IsTrue, length, get_or, map, refl, sym, ap, ◌∙◌, subst, arith, slice_get}
 use Rattle.std.specs.Prelude.{slice_index}
-use Rattle.std.specs.List.{All, AllByRecursion, AllPairs, Contains, cons_option, filter, filter_map, range_with_len}
+use Rattle.std.specs.List.{AllByRecursion, AllPairs, Contains, cons_option, range_with_len}
 use Rattle.std.specs.Option.{option_map}
 use Rattle.std.proofs.lemmas.Bool.{and_from, and_parts, cases_eq, cases_lt, eq-eqb, eqb-true}
 use Rattle.std.proofs.lemmas.List.Elements.{Contains-append_cases, Contains-append_left, Contains-append_right, recursion_from_All}
@@ -13,7 +13,7 @@ use Rattle.zac_gates.specs.declared.circuit.Op.{Op}
 use Rattle.zac_gates.specs.declared.circuit.Op.TheVariants.{One, Two, Fence, Read}
 use Rattle.zac_stage.specs.Numbers.{is_one, is_pair, is_one_of, is_pair_of, ones_of, pairs_of, NumbersFollow}
 use Rattle.zac_stage.specs.Staging.{Staging, IsStaging}
-use Rattle.zac_plan.proofs.Lists.{all_from_contains, contained_in_filter, contained_in_none, contained_in_range, contains_cases, contains_filter, contains_here, contains_later, contains_range, pairs_append, pairs_cons, pairs_head, pairs_none, pairs_tail, range_rises}
+use Rattle.zac_plan.proofs.Lists.{all_from_contains, contained_in_filter, contained_in_none, contains_cases, contains_filter, contains_here, contains_later, contains_range, pairs_append, pairs_cons, pairs_head, pairs_none, pairs_tail, range_rises}
 use Rattle.zac_plan.proofs.Logs.{AreOnes, ArePairs, entries_at, entry, in_turn, is_read_op, performed, reads_among}
 
 -- the entries at some numbers have these numbers and the ops there
@@ -87,8 +87,8 @@ realised_by_keys key ops numbers follows sorted no_fence whole =
     record {
       listed = all_from_contains (λ (e : Entry). (slice_get ops e.op ≡ Some e.what) × (e.what ≢ Fence)) (entries_at ops numbers)
           (λ e listed.
-              let is = entry_of ops numbers e listed in
-              (is.what, λ fence. no_fence e.op is.number (is.what ∙ ap (λ (o : Op). Some o) fence)));
+          let is = entry_of ops numbers e listed in
+          (is.what, λ fence. no_fence e.op is.number (is.what ∙ ap (λ (o : Op). Some o) fence)));
       whole = λ n what at fence. has_entry ops numbers n what at (whole n what at fence);
       once = λ i j d before within. first_differs key (get_or (entries_at ops numbers) i d).op (get_or (entries_at ops numbers) j d).op (pairs i j d before within);
       in_order = λ i j d before within must.
@@ -273,16 +273,16 @@ turns_sorted s t (suc m) =
     let from_pulse =
     pairs_append (ComesFirst (key s)) (pulse s t) (turns s (t + 1) m) (rising_keys s (2 * t + 1) (pulse s t) (pulse_key s t) (pulse_rises s t)) rest
     (λ x y in_first in_rest.
-        let at = pulse_key s t x in_first in
-        let later = turns_keys s (t + 1) m y in_rest in
-        inl (omega (arith, later.0))) in
+    let at = pulse_key s t x in_first in
+    let later = turns_keys s (t + 1) m y in_rest in
+    inl (omega (arith, later.0))) in
     pairs_append (ComesFirst (key s)) (slot s t) (pulse s t ++ turns s (t + 1) m) (rising_keys s (2 * t) (slot s t) (slot_key s t) (slot_rises s t)) from_pulse
     (λ x y in_first in_rest.
-        let at = slot_key s t x in_first in
-        elim (Contains-append_cases (pulse s t) (turns s (t + 1) m) y in_rest) as (λ _. ComesFirst (key s) x y) [
-          | inl in_pulse ↦ let there = pulse_key s t y in_pulse in inl (omega arith)
-          | inr later ↦ let keys = turns_keys s (t + 1) m y later in inl (omega (arith, keys.0))
-        ])
+    let at = slot_key s t x in_first in
+    elim (Contains-append_cases (pulse s t) (turns s (t + 1) m) y in_rest) as (λ _. ComesFirst (key s) x y) [
+      | inl in_pulse ↦ let there = pulse_key s t y in_pulse in inl (omega arith)
+      | inr later ↦ let keys = turns_keys s (t + 1) m y later in inl (omega (arith, keys.0))
+    ])
 
 turns_slot : (s : Staging) (t m k n : ℕ) → t ≤ k → k ≤ t + m → Contains (slot s k) n → Contains (turns s t m) n
 turns_slot s t zero k n low high listed =
@@ -371,9 +371,9 @@ all_sorted : (s : Staging) → AllPairs (ComesFirst (key s)) (all_turns s)
 all_sorted s =
     pairs_append (ComesFirst (key s)) (turns s 0 (length s.pairs)) (reads s) (turns_sorted s 0 (length s.pairs)) (rising_keys s (last s) (reads s) (reads_key s) (reads_rise s))
     (λ x y in_turns in_reads.
-        let keys = turns_keys s 0 (length s.pairs) x in_turns in
-        let at = reads_key s y in_reads in
-        inl (omega (arith, keys.1)))
+    let keys = turns_keys s 0 (length s.pairs) x in_turns in
+    let at = reads_key s y in_reads in
+    inl (omega (arith, keys.1)))
 
 all_no_fence : (s : Staging) (n : ℕ) → Contains (all_turns s) n → slice_get s.circuit.ops n ≢ Some Fence
 all_no_fence s n listed = elim (Contains-append_cases (turns s 0 (length s.pairs)) (reads s) n listed) as (λ _. slice_get s.circuit.ops n ≢ Some Fence) [

@@ -1,5 +1,5 @@
 -- Inside: how a timeline grows while a circuit is planned.
-use Rattle.std.specs.Prelude.{◌≡◌, ℕ, ◌<◌, ◌≤◌, List, ◌++◌, length, map}
+use Rattle.std.specs.Prelude.{◌≡◌, ◌<◌, ◌≤◌, List, ◌++◌, length, map}
 use Rattle.std.specs.List.{AllByRecursion}
 use Rattle.zac_arch.specs.Architecture.{Architecture, trap_count, site_count}
 use Rattle.zac_arch.specs.declared.card.Figures.{Figures}

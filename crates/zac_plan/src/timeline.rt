@@ -85,7 +85,12 @@ impl Timeline {
     }
 
     /// Adds the jobs that carry the atoms of these shifts, one after another.
-    pub fn add_carries(&mut self, alloc: Global, card: &Card, shifts: &[Shift]) -> Result<(), Memory>
+    pub fn add_carries(
+        &mut self,
+        alloc: Global,
+        card: &Card,
+        shifts: &[Shift],
+    ) -> Result<(), Memory>
         requires traps { All (HasTraps card.now) shifts.now }
         requires room { self.old.now + 3000000000 * length shifts.now < 2 ^ 64 }
         ensures ok { OnOk result (GoesOn card.now.figures self.old self.new (carries card.now shifts.now)) }

@@ -1,4 +1,4 @@
-use Rattle.std.proofs.Common.{◌≤◌, ◌∙◌, arith, subst, sym}
+use Rattle.std.proofs.Common.{◌≤◌, ◌∙◌, arith}
 use Rattle.zac_arch.proofs.Geometry.{site_count_least}
 use Rattle.zac_plan.specs.Growth.{IsStagingOf}
 use Rattle.zac_plan.proofs.Planned.{staging_of}

@@ -1,11 +1,9 @@
-use Rattle.std.proofs.Common.{◌≡◌, ◌≢◌, ◌+◌, ◌++◌, ◌<◌, [], ◌∷◌, List, arith, length, map, refl, ap, ◌∙◌, slice_get, subst, sym}
+use Rattle.std.proofs.Common.{◌≡◌, ◌≢◌, ◌++◌, ◌<◌, [], ◌∷◌, List, arith, length, map, ap, ◌∙◌, slice_get, subst, sym}
 use Rattle.std.specs.List.{All, AllPairs}
-use Rattle.std.specs.Vec.{vec_len}
 use Rattle.zac_arch.specs.declared.place.TrapId.{TrapId}
 use Rattle.zac_gates.specs.declared.circuit.Op.{Op}
 use Rattle.zair_form.specs.declared.program.Act.{Act}
 use Rattle.zair_form.specs.declared.program.Act.TheVariants.{Init, Rydberg}
-use Rattle.zair_form.specs.declared.program.Instr.{Instr}
 use Rattle.zac_plan.specs.declared.shift.Shift.{Shift}
 use Rattle.zac_plan.specs.Growth.{GoesOn, HasHomes}
 use Rattle.zac_plan.specs.Plan.{arrivals, back, carries, gates_act, gates_at, homes_for, pairs_at, reads_act, reads_in, to_sites}

@@ -1,4 +1,4 @@
-use Rattle.std.proofs.Common.{subst, arith}
+use Rattle.std.proofs.Common.{subst}
 use Rattle.zac_arch.specs.Rules.{HasFigureRanges}
 use Rattle.zac_arch.specs.declared.card.Figures.{Figures}
 use Rattle.zac_plan.proofs.Performing.{plan_is_safe, program_from_plan}

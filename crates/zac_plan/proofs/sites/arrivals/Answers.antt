@@ -1,5 +1,4 @@
-use Rattle.std.proofs.Common.{rules, ◌≡◌, ◌∙◌, List, ap, subst, sym, arith}
-use Rattle.std.specs.List.{AllPairs, Contains}
+use Rattle.std.proofs.Common.{rules, List, subst, arith}
 use Rattle.std.specs.List.Sorted.{IsPermutation}
 use Rattle.std.proofs.lemmas.List.Elements.{All-contains}
 use Rattle.std.proofs.lemmas.List.Sorted.{Contains-permutation, IsNonDecreasingBy-from_sort_by_key, IsPermutation-sym, length_permutation}
@@ -29,8 +28,8 @@ returns-clause-traps c =
     let moved = permutes (goal.at.returns-clause-traps c).In_ok-sort_by_key in
     all_from_contains (HasTraps a) sorted
     (λ s listed.
-        seats_have_traps a c.figures-figures.ensures.rules pairs c.requires.few (λ p in_pairs. All-contains (HasHomes a) pairs p c.requires.homes in_pairs) s
-        (Contains-permutation sorted shifts s (IsPermutation-sym shifts sorted moved) listed))
+    seats_have_traps a c.figures-figures.ensures.rules pairs c.requires.few (λ p in_pairs. All-contains (HasHomes a) pairs p c.requires.homes in_pairs) s
+    (Contains-permutation sorted shifts s (IsPermutation-sym shifts sorted moved) listed))
 
 pub returns-clause-two : goal.returns-clause-two
 returns-clause-two c =

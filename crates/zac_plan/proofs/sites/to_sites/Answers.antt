@@ -1,4 +1,4 @@
-use Rattle.std.proofs.Common.{◌≡◌, ◌++◌, ◌∷◌, [], get_or, arith}
+use Rattle.std.proofs.Common.{get_or, arith}
 use Rattle.zac_arch.proofs.Geometry.{site_count_most}
 use Rattle.zac_plan.proofs.Seats.{seats_more, seats_pushed}
 use Rattle.zac_plan.proofs.sites.to_sites.Goals as goal

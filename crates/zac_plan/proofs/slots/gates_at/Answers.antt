@@ -1,9 +1,8 @@
-use Rattle.std.proofs.Common.{◌≡◌, ◌+◌, ◌++◌, List, [], ◌∷◌, Some, get_or, refl, ap, ◌∙◌, sym, subst, arith}
+use Rattle.std.proofs.Common.{◌≡◌, ◌++◌, [], ◌∷◌, Some, get_or, refl, ap, ◌∙◌, sym, subst, arith}
 use Rattle.std.specs.List.{AllByRecursion}
 use Rattle.std.specs.Vec.{vec_len}
 use Rattle.std.proofs.lemmas.Option.{slice_get_read}
 use Rattle.zac_gates.specs.declared.angle.Angles.{Angles}
-use Rattle.zac_gates.specs.declared.circuit.Op.{Op}
 use Rattle.zair_form.specs.Ranges.{AnglesFit, GateFits}
 use Rattle.zair_form.specs.declared.step.OneGate.{OneGate}
 use Rattle.zac_plan.specs.Plan.{gate_of}

@@ -1,5 +1,4 @@
 use Rattle.std.proofs.Common.{arith}
-use Rattle.zac_plan.specs.declared.shift.Shift.{Shift}
 use Rattle.zac_plan.proofs.Growing.{carries_more}
 use Rattle.zac_plan.proofs.timeline.Timeline.add_carries.Goals as goal
 
