@@ -22,6 +22,29 @@ fn a_pair_has_a_plan(rt: HostRuntime) -> Result<(), Fail> {
     Ok(())
 }
 
+/// How many instructions the tiny card's plan has for the pairs of qubits 0 and 1 and of 3 and 2, with a fence between
+/// or not.
+fn lines(alloc: Global, fenced: bool) -> Result<usize, Fail> {
+    let mut ops = Vec::new(alloc);
+    ops.push(Op::Two { a: 0, b: 1 })?;
+    if fenced {
+        ops.push(Op::Fence)?;
+    }
+    ops.push(Op::Two { a: 3, b: 2 })?;
+    let circuit = Circuit::new(alloc, 4, 0, List::of(ops))?;
+    let card = Card::tiny(alloc)?;
+    Ok(compile(alloc, &card, &circuit)?.instrs().len())
+}
+
+#[test]
+fn pairs_share_a_pulse(rt: HostRuntime) -> Result<(), Fail> {
+    // Homes, four arrivals, one pulse.
+    assert_eq!(rt; lines(rt.alloc(), false)?, 6);
+    // Homes, two arrivals, a pulse, two returns, two arrivals, a pulse.
+    assert_eq!(rt; lines(rt.alloc(), true)?, 9);
+    Ok(())
+}
+
 #[test]
 fn faults_have_texts(rt: HostRuntime) -> Result<(), Fail> {
     let fault = PlanFault::TooManyQubits {
