@@ -36,22 +36,46 @@ impl Step {
         ensures { IfOk result (λ s. s ≡ self.now) }
     {
         match self {
-            Step::Activate { aod, rows, columns, atoms } => {
+            Step::Activate {
+                aod,
+                rows,
+                columns,
+                atoms,
+            } => {
                 let rows = copy_list(alloc, rows)?;
                 let columns = copy_list(alloc, columns)?;
                 let atoms = copy_list(alloc, atoms)?;
-                Ok(Step::Activate { aod: *aod, rows, columns, atoms })
+                Ok(Step::Activate {
+                    aod: *aod,
+                    rows,
+                    columns,
+                    atoms,
+                })
             }
             Step::Move { aod, rows, columns } => {
                 let rows = copy_list(alloc, rows)?;
                 let columns = copy_list(alloc, columns)?;
-                Ok(Step::Move { aod: *aod, rows, columns })
+                Ok(Step::Move {
+                    aod: *aod,
+                    rows,
+                    columns,
+                })
             }
-            Step::Deactivate { aod, rows, columns, atoms } => {
+            Step::Deactivate {
+                aod,
+                rows,
+                columns,
+                atoms,
+            } => {
                 let rows = copy_list(alloc, rows)?;
                 let columns = copy_list(alloc, columns)?;
                 let atoms = copy_list(alloc, atoms)?;
-                Ok(Step::Deactivate { aod: *aod, rows, columns, atoms })
+                Ok(Step::Deactivate {
+                    aod: *aod,
+                    rows,
+                    columns,
+                    atoms,
+                })
             }
             Step::One { gate } => {
                 let gate = gate.copy(alloc)?;
