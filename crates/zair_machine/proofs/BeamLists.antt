@@ -149,10 +149,10 @@ pub one_of_id : (beams : List Beam) (b c : Beam) → Rising beams → Contains b
 one_of_id beams b c h in_b in_c e = one_by_key (λ (b : Beam). b.id) beams b c h in_b in_c e
 
 -- the beam's id isn't among these
-abbrev stays : List ℕ → Beam → Bool
+abbrev pub stays : List ℕ → Beam → Bool
 stays ids b = not (list_any (λ id. eqb id b.id) ids)
 
-among : (ids : List ℕ) (n : ℕ) → Contains ids n → list_any (λ id. eqb id n) ids ≡ true
+pub among : (ids : List ℕ) (n : ℕ) → Contains ids n → list_any (λ id. eqb id n) ids ≡ true
 among [] n h = absurd (contains_none n h)
 among (id ∷ ids) n h = elim (contains_cases id n ids h) [
   | inl e ↦ subst (λ b. (b || list_any (λ i. eqb i n) ids) ≡ true) (sym (eq-eqb id n e)) refl
@@ -162,7 +162,7 @@ among (id ∷ ids) n h = elim (contains_cases id n ids h) [
   ]
 ]
 
-found : (ids : List ℕ) (n : ℕ) → list_any (λ id. eqb id n) ids ≡ true → Contains ids n
+pub found : (ids : List ℕ) (n : ℕ) → list_any (λ id. eqb id n) ids ≡ true → Contains ids n
 found [] n e = cc
 found (id ∷ ids) n e = elim (cases_Bool (eqb id n)) [
   | inl t ↦ subst (λ m. Contains (id ∷ ids) m) (eqb-true id n t) (contains_here id ids)
@@ -184,7 +184,7 @@ contains_without ids beams b h unlisted = elim (cases_Bool (list_any (λ id. eqb
   | inr f ↦ contains_filter (stays ids) beams b h (ap not f)
 ]
 
-length-without : (ids : List ℕ) (beams : List Beam) → length (without_beams ids beams) ≤ length beams
+pub length-without : (ids : List ℕ) (beams : List Beam) → length (without_beams ids beams) ≤ length beams
 length-without ids beams =
     let both = length-filter_both (stays ids) (λ b. not (stays ids b)) (λ b. refl) beams in
     omega arith

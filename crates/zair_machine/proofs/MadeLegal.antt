@@ -30,10 +30,10 @@ use Rattle.zair_machine.proofs.Changing.{within_back}
 use Rattle.zair_machine.proofs.Deciding.{Told, told_and, told_or, told_has, told_contained, told_stands, told_free, told_clear, told_on_trap, told_held, told_held_by, told_in_range, where_is, InTrap, InBeams, Nowhere}
 
 -- what can be told holds where it can't fail
-sure : {P : Type 0} → Told P → ¬ ¬ P → P
+pub sure : {P : Type 0} → Told P → ¬ ¬ P → P
 sure told h = elim told [ inl does ↦ does | inr doesnt ↦ absurd (h doesnt) ]
 
-once_from : (ns : List ℕ) → ((n : ℕ) → ¬ IsTwice ns n) → AreOnce ns
+pub once_from : (ns : List ℕ) → ((n : ℕ) → ¬ IsTwice ns n) → AreOnce ns
 once_from ns h i j d before within e =
     h (get_or ns j d) (
       i,
@@ -92,13 +92,13 @@ too_many most (b ∷ bs) h =
     let count = all_counted (b ∷ bs) r.0.id r.2 in
     (r.0.id, (has_id (b ∷ bs) r.0 r.1, subst (λ (n : ℕ). most < n) (sym count) h))
 
-few_from : (most : ℕ) (beams : List Beam) → ((id : ℕ) → ¬ IsOneTooMany most beams id) → length beams ≤ most
+pub few_from : (most : ℕ) (beams : List Beam) → ((id : ℕ) → ¬ IsOneTooMany most beams id) → length beams ≤ most
 few_from most beams h = elim (cases_lt most (length beams)) [
   | inl more ↦ let r = too_many most beams more in absurd (h r.0 r.1)
   | inr few ↦ few
 ]
 
-placed_from : (gap : ℕ) (beams : List Beam) → ((id : ℕ) → ¬ IsOffField beams id) →
+pub placed_from : (gap : ℕ) (beams : List Beam) → ((id : ℕ) → ¬ IsOffField beams id) →
     ((k : ℕ) (lower upper : Beam) → slice_get beams k ≡ Some lower → slice_get beams (k + 1) ≡ Some upper → ¬ (upper.at ≤ lower.at)) →
     ((k : ℕ) (lower upper : Beam) → slice_get beams k ≡ Some lower → slice_get beams (k + 1) ≡ Some upper → lower.at < upper.at → ¬ (upper.at < lower.at + gap)) → ArePlaced gap beams
 placed_from gap beams on order far = record {
@@ -120,7 +120,7 @@ placed_from gap beams on order far = record {
       | inr ge ↦ absurd (above ge)
     ]
 
-told_id : (beams : List Beam) (id : ℕ) → Told (HasId beams id)
+pub told_id : (beams : List Beam) (id : ℕ) → Told (HasId beams id)
 told_id beams id = told_has (ids beams) id
 
 one_trap : (t u : TrapId) → Some (Trap t) ≡ Some (Trap u) → t ≡ u

@@ -121,10 +121,14 @@ IsPastLimit a s (One gate) b = ⊥
 IsPastLimit a s (Pulse pairs) b = ⊥
 IsPastLimit a s (Readout reads) b = ⊥
 
+-- Of beams by rising id, upper has this id, and lower is that of next lower id.
+abbrev pub AreNeighbours : List Beam → ℕ → Beam → Beam → Type 0
+AreNeighbours beams id lower upper =
+    (k : ℕ) × (slice_get beams k ≡ Some lower) × (slice_get beams (k + 1) ≡ Some upper) × (upper.id ≡ id)
+
 -- After the step the beam of this id is upper, and lower is that of next lower id.
 abbrev pub IsBehind : State → Step → BeamId → Beam → Beam → Type 0
-IsBehind s step b lower upper =
-    (k : ℕ) × (slice_get (beams_after s step b.axis) k ≡ Some lower) × (slice_get (beams_after s step b.axis) (k + 1) ≡ Some upper) × (upper.id ≡ b.id)
+IsBehind s step b lower upper = AreNeighbours (beams_after s step b.axis) b.id lower upper
 
 -- The beam's position isn't greater than that of the beam of next lower id.
 abbrev pub IsOutOfOrder : State → Step → BeamId → Type 0

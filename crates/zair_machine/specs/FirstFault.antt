@@ -1,5 +1,5 @@
 -- Which fault of a step is told: the first condition that is broken, by the least thing that breaks it.
-use Rattle.std.specs.Prelude.{◌≡◌, ℕ, ◌<◌, ◌⊎◌, List, [], ◌∷◌}
+use Rattle.std.specs.Prelude.{◌≡◌, ℕ, ◌<◌, ◌⊎◌, Option, MatchOption, List, [], ◌∷◌}
 use Rattle.zac_arch.specs.Architecture.{Architecture}
 use Rattle.zair_form.specs.declared.step.Step.{Step}
 use Rattle.zair_machine.specs.declared.fault.BeamId.{BeamId}
@@ -57,3 +57,31 @@ ComesBefore (m ∷ ms) (n ∷ ns) = (m < n) ⊎ ((m ≡ n) × ComesBefore ms ns)
 pub record IsFirstFault (a : Architecture) (s : State) (step : Step) (fault : MachineFault) : Type 0 where
   pub breaks : Breaks a s step fault
   pub first : (other : MachineFault) → Breaks a s step other → ¬ ComesBefore (numbers other) (numbers fault)
+
+-- The place of the fault's condition in the order in which conditions are tested.
+abbrev pub condition : MachineFault → ℕ
+condition (Unknown number) = 0
+condition (Busy beam) = 1
+condition (NotActive beam) = 2
+condition (Limit beam) = 3
+condition (Order beam) = 4
+condition (Gap beam) = 5
+condition (Touch row column) = 6
+condition (PickWrong q) = 7
+condition (DropWrong q) = 8
+condition (TrapFull q trap) = 9
+condition (PairWrong q r) = 10
+condition (LitAlone q) = 11
+condition (NotAtRest q) = 12
+condition (Crossing aod row column) = 12
+
+-- The step breaks no condition before the one of this place.
+abbrev pub AreMetBefore : Architecture → State → Step → ℕ → Type 0
+AreMetBefore a s step place = (fault : MachineFault) → condition fault < place → ¬ Breaks a s step fault
+
+-- Of the condition at this place, the first fault that the step breaks is told; there is none where the step breaks none.
+abbrev pub Tells : Architecture → State → Step → ℕ → Option MachineFault → Type 0
+Tells a s step place told =
+    MatchOption told ((fault : MachineFault) → condition fault ≡ place → ¬ Breaks a s step fault)
+    (λ fault. (condition fault ≡ place) × Breaks a s step fault
+    × ((other : MachineFault) → condition other ≡ place → Breaks a s step other → ¬ ComesBefore (numbers other) (numbers fault)))

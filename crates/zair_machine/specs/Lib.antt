@@ -4,6 +4,8 @@ pub mod Legal
 pub mod Invariant
 pub mod Faults
 pub mod FirstFault
+pub mod Least
+pub mod Machine
 pub mod Run
 pub mod Orders
 pub mod Resources

@@ -1,6 +1,7 @@
 //! What is wrong with a step.
 
 use zac_arch::TrapId;
+use zac_gates::Memory;
 
 /// The rows or the columns of an AOD.
 #[derive(Clone, Copy, Debug, PartialEq, Eq)]
@@ -55,4 +56,25 @@ pub enum MachineFault {
     NotAtRest { q: u32 },
     /// A crossing stands inside a lit box at a pulse.
     Crossing { aod: u8, row: u8, column: u8 },
+}
+
+/// Why there is no machine with these homes.
+#[derive(Clone, Copy, Debug, PartialEq, Eq)]
+pub enum NewFault {
+    /// The home of this qubit isn't a storage trap, or is that of a qubit of smaller number. It is the least such
+    /// qubit.
+    Home { q: u32 },
+    /// There was no memory.
+    Memory,
+}
+
+impl From<Memory> for NewFault {
+    ghost use Rattle.std.specs.Prelude.{◌≡◌};
+    ghost use Rattle.zair_machine.specs.declared.fault.NewFault.TheVariants as fault;
+
+    ghost from_gives = { λ _ e. e ≡ fault.Memory };
+
+    fn from(_error: Memory) -> NewFault {
+        NewFault::Memory
+    }
 }

@@ -1,0 +1,10 @@
+use Rattle.std.proofs.Common.{◌⊎◌, take}
+use Rattle.zair_form.specs.declared.step.Caught.{Caught}
+use Rattle.zair_machine.specs.Least.{IsLeastOf}
+use Rattle.zair_machine.specs.Faults.{named_beam}
+use Rattle.zair_machine.specs.State.{HasId}
+use Rattle.zair_machine.proofs.Minima.{KeyOf}
+use Rattle.zair_machine.proofs.beams.least_named_in_neither.Given as goal
+
+abbrev pub invariant-loop-c : goal.invariant-loop-c
+invariant-loop-c l = IsLeastOf (KeyOf (named_beam l.axis) (λ (x : Caught). ¬ (HasId l.beams (named_beam l.axis x) ⊎ HasId l.others (named_beam l.axis x))) (take l.c-index l.atoms)) l.least

@@ -1,0 +1,54 @@
+use Rattle.std.proofs.Common.{◌≡◌, ◌<◌, ◌≤◌, ◌∙◌, List, length, refl, sym, ap, subst}
+use Rattle.std.specs.List.{All}
+use Rattle.zac_arch.specs.declared.card.Figures.{Figures}
+use Rattle.zair_form.specs.declared.step.Dropped.{Dropped}
+use Rattle.zair_form.specs.declared.step.Step.{Step}
+use Rattle.zair_form.specs.declared.step.Step.TheVariants.{Deactivate}
+use Rattle.zair_machine.specs.declared.place.Place.{Place}
+use Rattle.zair_machine.specs.State.{State, Beams, beams_of}
+use Rattle.zair_machine.specs.Machine.{Running}
+use Rattle.zair_machine.specs.Legal.{IsLegal}
+use Rattle.zair_machine.specs.Result.{after, after_dropping, without_beams}
+use Rattle.zair_machine.proofs.Applying.{set_same, kept_so, written_back, read_beams, few_on, length_dropped, dropped_within}
+use Rattle.zair_machine.proofs.machine.Machine.deactivate.Goals as goal
+
+pub without_all-requires : goal.without_all-requires
+without_all-requires c =
+    let s : State = record { places = c.self.inside.places.items; aods = c.self.inside.aods.items } in
+    let step : Step = Deactivate c.args.aod c.args.rows.now c.args.columns.now c.args.atoms.now in
+    let legal : IsLegal c.self.inside.card.now s step = subst (λ (r : Running). IsLegal r.card r.state step) (sym c.self.view_is) c.requires in
+    let on : c.rows.result.now ≡ (beams_of s c.args.aod).rows = c.rows.ensures ∙ ap (λ (b : Beams). b.rows) (read_beams s c.args.aod c.index.result.now legal.known c.index.ensures) in
+    few_on c.self.inside.card.now.figures.rows c.rows.result.now (beams_of s c.args.aod).rows on (c.self.invariant.sound.rows c.args.aod).few (subst (λ (f : Figures). f.rows ≤ 64) c.figures-figures.ensures.figures c.figures-figures.ensures.ranges.rows_most)
+
+pub without_all-requires-2 : goal.without_all-requires-2
+without_all-requires-2 c =
+    let s : State = record { places = c.self.inside.places.items; aods = c.self.inside.aods.items } in
+    let step : Step = Deactivate c.args.aod c.args.rows.now c.args.columns.now c.args.atoms.now in
+    let legal : IsLegal c.self.inside.card.now s step = subst (λ (r : Running). IsLegal r.card r.state step) (sym c.self.view_is) c.requires in
+    let across : c.columns.result.now ≡ (beams_of s c.args.aod).columns = c.columns.ensures ∙ ap (λ (b : Beams). b.columns) (read_beams s c.args.aod c.index-2.result.now legal.known c.index-2.ensures) in
+    few_on c.self.inside.card.now.figures.columns c.columns.result.now (beams_of s c.args.aod).columns across (c.self.invariant.sound.columns c.args.aod).few (subst (λ (f : Figures). f.columns ≤ 64) c.figures-figures.ensures.figures c.figures-figures.ensures.ranges.columns_most)
+
+pub drop_all-requires : goal.drop_all-requires
+drop_all-requires c =
+    let s : State = record { places = c.self.inside.places.items; aods = c.self.inside.aods.items } in
+    let step : Step = Deactivate c.args.aod c.args.rows.now c.args.columns.now c.args.atoms.now in
+    let legal : IsLegal c.self.inside.card.now s step = subst (λ (r : Running). IsLegal r.card r.state step) (sym c.self.view_is) c.requires in
+    subst (λ (l : List Place). All (λ (x : Dropped). x.q < length l) c.args.atoms.now) (sym c.deref_mut.ensures.value)
+    (dropped_within c.self.inside.card.now s c.args.aod c.args.rows.now c.args.columns.now c.args.atoms.now legal.drops)
+
+pub invariant_of-self : goal.invariant_of-self
+invariant_of-self c =
+    let s : State = record { places = c.self.inside.places.items; aods = c.self.inside.aods.items } in
+    let step : Step = Deactivate c.args.aod c.args.rows.now c.args.columns.now c.args.atoms.now in
+    let legal : IsLegal c.self.inside.card.now s step = subst (λ (r : Running). IsLegal r.card r.state step) (sym c.self.view_is) c.requires in
+    let on : c.rows.result.now ≡ (beams_of s c.args.aod).rows = c.rows.ensures ∙ ap (λ (b : Beams). b.rows) (read_beams s c.args.aod c.index.result.now legal.known c.index.ensures) in
+    let across : c.columns.result.now ≡ (beams_of s c.args.aod).columns = c.columns.ensures ∙ ap (λ (b : Beams). b.columns) (read_beams s c.args.aod c.index-2.result.now legal.known c.index-2.ensures) in
+    let next : State = after s step in
+    let put : c.drop_all.new.places ≡ next.places = c.drop_all.ensures ∙ ap (λ (l : List Place). after_dropping c.args.atoms.now l) c.deref_mut.ensures.value in
+    let long : length next.places ≡ length s.places = length_dropped c.args.atoms.now s.places in
+    kept_so c.self.inside.card.now s _ next c.self.invariant
+    (c.legal_steps_keep_states_sound.ensures.one s step c.self.invariant.sound legal) long
+    (set_same s c.args.aod _ next.places c.without_all.result.items _ c.without_all-2.result.items _
+    (written_back c.self.inside.places.len c.drop_all.new.places s.places (sym (ap length c.deref_mut.ensures.value) ∙ c.deref_mut.ensures.len) (ap length put ∙ long) ∙ put)
+    (c.without_all.ensures ∙ ap (without_beams c.args.rows.now) on)
+    (c.without_all-2.ensures ∙ ap (without_beams c.args.columns.now) across))

@@ -1,0 +1,7 @@
+use Rattle.std.proofs.Common.{take}
+use Rattle.zair_machine.specs.Faults.{TouchesAt}
+use Rattle.zair_machine.proofs.Touching.{NoTouch}
+use Rattle.zair_machine.proofs.machine.Machine.touch.Given as goal
+
+abbrev pub invariant-loop-row : goal.invariant-loop-row
+invariant-loop-row l = NoTouch (TouchesAt l.self.card l.self.state l.step) (take l.row-index l.rows) l.columns

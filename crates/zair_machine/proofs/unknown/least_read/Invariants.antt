@@ -1,0 +1,8 @@
+use Rattle.std.proofs.Common.{◌≤◌, take}
+use Rattle.zair_form.specs.declared.step.ReadOf.{ReadOf}
+use Rattle.zair_machine.specs.Least.{IsLeastOf}
+use Rattle.zair_machine.proofs.Minima.{KeyOf}
+use Rattle.zair_machine.proofs.unknown.least_read.Given as goal
+
+abbrev pub invariant-loop-r : goal.invariant-loop-r
+invariant-loop-r l = IsLeastOf (KeyOf (λ (x : ReadOf). x.q) (λ (x : ReadOf). l.qubits ≤ (λ (x : ReadOf). x.q) x) (take l.r-index l.reads)) l.least

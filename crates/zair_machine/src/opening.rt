@@ -1,0 +1,74 @@
+//! The machine at the begin.
+
+ghost use Rattle.std.specs.Prelude.{◌≡◌, ℕ, IfOk, MatchResult, map, replicate};
+ghost use Rattle.zair_machine.specs.Least.{IsLeastOf};
+ghost use Rattle.zair_machine.specs.Machine.{IsWrongHome, TellsHome};
+ghost use Rattle.zair_machine.specs.State.{idle, opening};
+ghost use Rattle.zair_machine.specs.declared.place.Place.TheVariants.{Trap};
+
+use crate::aod::Aod;
+use crate::fault::NewFault;
+use crate::machine::Machine;
+use crate::place::Place;
+use std::alloc::Global;
+use zac_arch::{Card, TrapId};
+use zac_gates::Memory;
+
+/// The least qubit whose home is no storage trap, or that of a qubit of smaller number.
+fn first_wrong_home(alloc: Global, card: &Card, homes: &[TrapId]) -> Result<Option<u32>, Memory>
+    ensures { IfOk result (IsLeastOf (IsWrongHome card.now homes.now)) }
+{
+    let _rules = card.figures();
+    let mut taken = vec![in alloc; false; card.storage_traps() as usize]?;
+    for (q, home) in homes.iter().enumerate() {
+        let trap = home.0 as usize;
+        if trap >= taken.len() || taken[trap] {
+            return Ok(Some(q as u32));
+        }
+        taken[trap] = true;
+    }
+    Ok(None)
+}
+
+/// Each qubit at rest in its home.
+fn at_rest(alloc: Global, homes: &[TrapId]) -> Result<Vec<Place>, Memory>
+    ensures { IfOk result (λ places. places.items ≡ map (λ home. Trap home) homes.now) }
+{
+    let mut places = Vec::with_capacity(alloc, homes.len())?;
+    for home in homes {
+        places.push(Place::Trap(*home))?;
+    }
+    Ok(places)
+}
+
+/// So many AODs without a beam.
+fn idle_aods(alloc: Global, count: u8) -> Result<Vec<Aod>, Memory>
+    ensures { IfOk result (λ aods. aods.items ≡ replicate count idle) }
+{
+    let mut aods = Vec::with_capacity(alloc, count as usize)?;
+    for _ in 0..count {
+        aods.push(Aod::idle())?;
+    }
+    Ok(aods)
+}
+
+impl<'a> Machine<'a> {
+    /// The machine of a card at the begin: each qubit rests in its home, the trap at the place of its number in
+    /// `homes`, and no AOD has a beam. It borrows the card.
+    ///
+    /// `NewFault::Home` tells the least qubit whose home isn't a storage trap of the card, or is the home of a qubit
+    /// of smaller number; `NewFault::Memory` that there was no memory.
+    pub fn new(alloc: Global, card: &'a Card, homes: &[TrapId]) -> Result<Machine<'a>, NewFault>
+        ensures { MatchResult result
+            (λ m. (m ≡ record { card = card.now; state = opening card.now homes.now })
+            × ((q : ℕ) → ¬ IsWrongHome card.now homes.now q))
+            (TellsHome card.now homes.now) }
+    {
+        if let Some(q) = first_wrong_home(alloc, card, homes)? {
+            return Err(NewFault::Home { q });
+        }
+        let places = at_rest(alloc, homes)?;
+        let aods = idle_aods(alloc, card.figures().aods)?;
+        Ok(Machine { card, places, aods })
+    }
+}
