@@ -1,5 +1,5 @@
 -- What a step changes: beams and atoms one after another, and the whole state.
-use Rattle.std.proofs.Common.{◌≡◌, ℕ, zero, suc, ◌+◌, ◌<◌, ◌≤◌, inl, inr, Bool, true, false, cond, not, eqb, List, [], ◌∷◌, ◌++◌, length, take, drop, get_or, set, append-nil, drop_of_length-le, take_all, refl, sym, ap, ◌∙◌, subst, arith, length-take, length-set}
+use Rattle.std.proofs.Common.{◌≡◌, ℕ, ◌+◌, ◌<◌, ◌≤◌, inl, inr, Bool, false, cond, not, eqb, List, [], ◌∷◌, ◌++◌, length, take, drop, get_or, set, append-nil, drop_of_length-le, take_all, refl, sym, ap, ◌∙◌, subst, arith, length-take, length-set}
 use Rattle.std.specs.List.{All, Contains, list_any}
 use Rattle.std.proofs.lemmas.Bool.{cases_Bool}
 use Rattle.std.proofs.lemmas.List.Elements.{All-contains, filter_more}

@@ -1,4 +1,4 @@
-use Rattle.std.proofs.Common.{◌≡◌, ◌<◌, ◌≤◌, ◌∙◌, List, length, refl, sym, ap, subst}
+use Rattle.std.proofs.Common.{◌≡◌, ◌<◌, ◌≤◌, ◌∙◌, List, length, sym, ap, subst}
 use Rattle.std.specs.List.{All}
 use Rattle.zac_arch.specs.declared.card.Figures.{Figures}
 use Rattle.zair_form.specs.declared.step.Dropped.{Dropped}
