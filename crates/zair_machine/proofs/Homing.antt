@@ -83,10 +83,14 @@ module _ (a : Architecture) (homes : List TrapId) where
 
   pub wrong_here : (taken : List Bool) (q : ℕ) (d : TrapId) → AreMarked taken q → q < length homes → (length taken ≤ (get_or homes q d).0) ⊎ (get_or taken (get_or homes q d).0 false ≡ true) → IsLeastOf (IsWrongHome a homes) (Some q)
   wrong_here taken q d marked lt h =
-      first_of_all (IsWrongHome a homes) q marked.right (get_or homes q d, slice_get-get_or homes q d lt, elim h [
-        | inl ge ↦ inl (omega (arith, ge, marked.len))
-        | inr mark ↦ inr (marked.only (get_or homes q d).0 mark)
-      ])
+      first_of_all (IsWrongHome a homes) q marked.right (
+        get_or homes q d,
+        slice_get-get_or homes q d lt,
+        elim h [
+          | inl ge ↦ inl (omega (arith, ge, marked.len))
+          | inr mark ↦ inr (marked.only (get_or homes q d).0 mark)
+        ],
+      )
 
   right_here : (taken : List Bool) (q : ℕ) (d : TrapId) → AreMarked taken q → q < length homes → (get_or homes q d).0 < length taken → get_or taken (get_or homes q d).0 false ≡ false → ¬ IsWrongHome a homes q
   right_here taken q d marked lt within unmarked w =

@@ -280,10 +280,7 @@ impl<'a> Machine<'a> {
     {
         let _sound = self.most_beams();
         for aod in 0..self.aod_count() {
-            let (rows, columns) = (
-                self.active(aod, Axis::Row),
-                self.active(aod, Axis::Column),
-            );
+            let (rows, columns) = (self.active(aod, Axis::Row), self.active(aod, Axis::Column));
             if let Some((row, column)) = self.lit_pair(rows, columns) {
                 return Some((aod, row, column));
             }
