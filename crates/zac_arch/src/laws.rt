@@ -2,7 +2,7 @@
 
 ghost use Rattle.std.specs.Prelude.{◌≡◌, ℕ, ◌+◌, ◌*◌, ◌<◌, ◌≤◌, ◌≢◌};
 ghost use Rattle.zac_arch.specs.declared.place.Point.{Point};
-ghost use Rattle.zac_arch.specs.Architecture.{trap_count, storage_count, site_count, StandsAt, left_trap, right_trap, IsTrapOf, IsLit};
+ghost use Rattle.zac_arch.specs.Architecture.{trap_count, storage_count, site_count, StandsAt, left_trap, right_trap, IsTrapOf, IsInZone, IsLit};
 ghost use Rattle.zac_arch.specs.Distances.{IsWithin, IsFarther};
 ghost use Rattle.zac_arch.specs.Parking.{IsCorner, IsParkedBeside};
 
@@ -43,6 +43,24 @@ pub fn laws_of_parking(card: &Card)
     ensures parked_apart { (t u : ℕ) → (p q r : Point)
         → StandsAt card.now t p → StandsAt card.now u q
         → IsParkedBeside card.now.figures.park p r → IsFarther card.now.figures.reach r q }
+{
+    let _rules = card.figures();
+}
+
+/// The laws of a zone: no trap is in two zones; the traps of a zone are a full grid, so that one stands in the column of any of
+/// them and the row of any other; and between two columns of a zone, as between two rows, there is room for a parked beam and
+/// the gap beside it.
+pub fn laws_of_zones(card: &Card)
+    ensures one_zone { (t m n : ℕ) → IsInZone card.now t m → IsInZone card.now t n → m ≡ n }
+    ensures grid { (zone t u : ℕ) → (p q : Point)
+        → IsInZone card.now t zone → IsInZone card.now u zone → StandsAt card.now t p → StandsAt card.now u q
+        → (v : ℕ) × IsInZone card.now v zone × StandsAt card.now v (record { x = p.x; y = q.y }) }
+    ensures columns { (zone t u : ℕ) → (p q : Point)
+        → IsInZone card.now t zone → IsInZone card.now u zone → StandsAt card.now t p → StandsAt card.now u q
+        → p.x < q.x → p.x + card.now.figures.park + card.now.figures.gap ≤ q.x }
+    ensures rows { (zone t u : ℕ) → (p q : Point)
+        → IsInZone card.now t zone → IsInZone card.now u zone → StandsAt card.now t p → StandsAt card.now u q
+        → p.y < q.y → p.y + card.now.figures.park + card.now.figures.gap ≤ q.y }
 {
     let _rules = card.figures();
 }

@@ -13,6 +13,6 @@ mod rules;
 mod zone_grid;
 
 pub use card::{Card, Figures, Zone, ZoneKind};
-pub use laws::{laws_of_parking, laws_of_traps};
+pub use laws::{laws_of_parking, laws_of_traps, laws_of_zones};
 pub use place::{Point, SiteId, TrapId, within};
 pub use zac_memory::Memory;
