@@ -3,7 +3,7 @@ use Rattle.std.specs.Prelude.{◌≤◌, List, Option}
 use Rattle.zac_arch.specs.Architecture.{Architecture, storage_count}
 use Rattle.zac_gates.specs.Ops.{NativeCircuit}
 use Rattle.zac_io.specs.Outside.{NamedFiles}
-use Rattle.zair_machine.specs.Performs.{Performs}
+use Rattle.zair_state.specs.Performs.{Performs}
 use Rattle.zair_form.specs.declared.program.Instr.{Instr}
 use Rattle.qasm_expand.specs.Expansion.{IsWithinLimits, IsExpansion}
 use Rattle.qasm_names.specs.Accepted.{Program}

@@ -4,7 +4,7 @@ ghost use Rattle.std.specs.Prelude.{◌≡◌, ◌<◌, ◌≤◌, ◌⊎◌, Er
 ghost use Rattle.zac_arch.specs.Architecture.{storage_count};
 ghost use Rattle.zac_archfile.specs.declared.fault.CardFault.{CardFault};
 ghost use Rattle.zac_io.specs.Outside.{Appends, AppendsPrefix};
-ghost use Rattle.zair_machine.specs.Performs.{Performs};
+ghost use Rattle.zair_state.specs.Performs.{Performs};
 ghost use Rattle.zair_text.specs.Lines.{program_text, program_lines};
 ghost use Rattle.zair_text.specs.Ranges.{AreWritable};
 ghost use Rattle.zair_text.specs.Writing.{AppendsLines};

@@ -22,9 +22,9 @@ use Rattle.zair_form.specs.declared.step.PairOf.{PairOf}
 use Rattle.zair_form.specs.declared.step.ReadOf.{ReadOf}
 use Rattle.zair_form.specs.declared.step.Step.{Step}
 use Rattle.zair_form.specs.declared.step.Step.TheVariants.{One}
-use Rattle.zair_machine.specs.Chain.{EachGoesSomewhere, MovesGoSomewhere}
-use Rattle.zair_machine.specs.Legal.{Rests}
-use Rattle.zair_machine.specs.State.{opening}
+use Rattle.zair_state.specs.Chain.{EachGoesSomewhere, MovesGoSomewhere}
+use Rattle.zair_state.specs.Legal.{Rests}
+use Rattle.zair_state.specs.State.{opening}
 use Rattle.zac_plan.specs.declared.shift.Shift.{Shift}
 use Rattle.zac_plan.specs.Plan.{home, homes_for, arrivals, returns, carry, carries, gate_of, read_of, gates_at, pairs_at, reads_in, gates_act, reads_act, acts_from}
 use Rattle.zac_plan.proofs.Lists.{all-append, contained_in_none, contains_here, contains_later, pairs_none}

@@ -11,11 +11,11 @@ use Rattle.zac_arch.specs.declared.place.TrapId.{TrapId}
 use Rattle.zair_form.specs.declared.step.Beam.{Beam}
 use Rattle.zair_form.specs.declared.step.Caught.{Caught}
 use Rattle.zair_form.specs.declared.step.Step.TheVariants.{Activate, Move, Deactivate}
-use Rattle.zair_machine.specs.declared.place.Place.{Place}
-use Rattle.zair_machine.specs.declared.place.Place.TheVariants.{Trap, Held}
-use Rattle.zair_machine.specs.State.{State, Beams, idle, IsAt, HasId, IsFreeOfOthers, ArePlaced}
-use Rattle.zair_machine.specs.Legal.{AreFresh, Picks, Drops, CarriesOverEmptyTrap, IsLegal}
-use Rattle.zair_machine.specs.Run.{IsLegalRun, after_all}
+use Rattle.zair_state.specs.declared.place.Place.{Place}
+use Rattle.zair_state.specs.declared.place.Place.TheVariants.{Trap, Held}
+use Rattle.zair_state.specs.State.{State, Beams, idle, IsAt, HasId, IsFreeOfOthers, ArePlaced}
+use Rattle.zair_state.specs.Legal.{AreFresh, Picks, Drops, CarriesOverEmptyTrap, IsLegal}
+use Rattle.zair_state.specs.Run.{IsLegalRun, after_all}
 use Rattle.zac_plan.specs.Plan.{carrier}
 use Rattle.zac_plan.specs.Flight.{flight_steps}
 use Rattle.zac_plan.proofs.Lists.{All-one, AllPairs-one, AllAdjacent-one, contains_one, contained_in_one, contained_in_none, slice_get-set_same, slice_get-set_other, set-set_same}

@@ -21,7 +21,7 @@ use Rattle.zair_form.specs.declared.program.Instr.{Instr}
 use Rattle.zair_form.specs.Ranges.{ActFits, BeamFits, IsNumber, IsPosition}
 use Rattle.zair_form.specs.Steps.{steps_of}
 use Rattle.zair_form.specs.Times.{LastTogether, greatest_change}
-use Rattle.zair_machine.specs.Chain.{IsChain, end_of}
+use Rattle.zair_state.specs.Chain.{IsChain, end_of}
 use Rattle.zac_plan.specs.declared.timeline.Timeline.{Timeline}
 use Rattle.zac_plan.specs.Flight.{flight_steps, IsFlightTime}
 use Rattle.zac_plan.specs.Growth.{GoesOn, HasTraps}

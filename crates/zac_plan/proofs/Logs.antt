@@ -17,7 +17,7 @@ use Rattle.zair_form.specs.declared.step.Step.TheVariants.{One}
 use Rattle.zair_form.specs.declared.program.Act.{Act}
 use Rattle.zair_form.specs.declared.program.Act.TheVariants.{Rydberg}
 use Rattle.zair_form.specs.Steps.{steps_of}
-use Rattle.zair_machine.specs.Run.{entries, log_of}
+use Rattle.zair_state.specs.Run.{entries, log_of}
 use Rattle.zac_plan.specs.declared.shift.Shift.{Shift}
 use Rattle.zac_plan.specs.Plan.{arrivals, returns, carries, gate_of, pair_of, read_of, gates_at, pairs_at, reads_in, gates_act, reads_act, acts_from}
 

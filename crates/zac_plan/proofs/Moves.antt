@@ -11,7 +11,7 @@ use Rattle.zac_arch.proofs.Geometry.{one_trap}
 use Rattle.zair_form.specs.Times.{greatest_change}
 use Rattle.zac_plan.specs.declared.shift.Shift.{Shift}
 use Rattle.zac_plan.specs.Plan.{point_at, carrier, carry}
-use Rattle.zair_machine.specs.Chain.{MovesGoSomewhere}
+use Rattle.zair_state.specs.Chain.{MovesGoSomewhere}
 
 -- a beam that gets another position goes somewhere
 pub carrier_change : (x y : ℕ) → greatest_change (carrier x) (carrier y) ≡ min 1000000 (difference x y)

@@ -16,11 +16,11 @@ use Rattle.zair_form.specs.declared.program.Act.{Act}
 use Rattle.zair_form.specs.declared.program.Act.TheVariants.{Init}
 use Rattle.zair_form.specs.declared.program.Instr.{Instr}
 use Rattle.zair_form.specs.declared.step.Step.{Step}
-use Rattle.zair_machine.specs.Chain.{IsChain, IsSafeChain, MovesGoSomewhere}
-use Rattle.zair_machine.specs.Homes.{AreHomes}
-use Rattle.zair_machine.specs.Performs.{listed_steps}
-use Rattle.zair_machine.specs.Run.{IsLegalRun, log_of}
-use Rattle.zair_machine.specs.State.{opening}
+use Rattle.zair_state.specs.Chain.{IsChain, IsSafeChain, MovesGoSomewhere}
+use Rattle.zair_state.specs.Homes.{AreHomes}
+use Rattle.zair_state.specs.Performs.{listed_steps}
+use Rattle.zair_state.specs.Run.{IsLegalRun, log_of}
+use Rattle.zair_state.specs.State.{opening}
 use Rattle.zac_plan.specs.Growth.{IsStagingOf}
 use Rattle.zac_plan.specs.Plan.{home, homes_for, plan, acts_from, reads_in, reads_act}
 use Rattle.zac_plan.proofs.Acts.{IsPart, all_part, may_come}

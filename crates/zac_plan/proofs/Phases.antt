@@ -8,9 +8,9 @@ use Rattle.zac_arch.specs.Rules.{KeepsRules}
 use Rattle.zac_arch.specs.declared.place.TrapId.{TrapId}
 use Rattle.zair_form.specs.declared.step.Step.{Step}
 use Rattle.zair_form.specs.Steps.{steps_of}
-use Rattle.zair_machine.specs.State.{State, opening}
-use Rattle.zair_machine.specs.Result.{after}
-use Rattle.zair_machine.specs.Run.{IsLegalRun, after_all}
+use Rattle.zair_state.specs.State.{State, opening}
+use Rattle.zair_state.specs.Result.{after}
+use Rattle.zair_state.specs.Run.{IsLegalRun, after_all}
 use Rattle.zac_plan.specs.declared.shift.Shift.{Shift}
 use Rattle.zac_plan.specs.Plan.{back, carries, carry_steps}
 use Rattle.zac_plan.proofs.Lists.{contained_in_none, contains_cases, contains_here, contains_later, contained_in_map, contains_map, pairs_head, pairs_tail, pairs_map, same_places, slice_get-set_same, slice_get-set_other}

@@ -15,7 +15,7 @@ use Rattle.zair_form.specs.declared.program.Act.{Act}
 use Rattle.zair_form.specs.declared.program.Act.TheVariants.{Init, Rydberg}
 use Rattle.zair_form.specs.declared.program.Instr.{Instr}
 use Rattle.zair_form.specs.declared.step.PairOf.{PairOf}
-use Rattle.zair_machine.specs.Chain.{IsChain, end_of}
+use Rattle.zair_state.specs.Chain.{IsChain, end_of}
 use Rattle.zac_plan.specs.declared.shift.Shift.{Shift}
 use Rattle.zac_plan.specs.declared.timeline.Timeline.{Timeline}
 use Rattle.zac_plan.specs.Growth.{ActsFit, GoesOn, HasHomes, HasTraps, IsStagingOf}

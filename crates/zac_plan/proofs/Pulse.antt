@@ -11,9 +11,9 @@ use Rattle.zac_arch.specs.declared.place.TrapId.{TrapId}
 use Rattle.zac_arch.proofs.Geometry.{storage_dark, entangling_lit, site_within, one_site, trap_count_is}
 use Rattle.zair_form.specs.declared.step.PairOf.{PairOf}
 use Rattle.zair_form.specs.declared.step.Step.TheVariants.{Pulse}
-use Rattle.zair_machine.specs.declared.place.Place.TheVariants.{Trap}
-use Rattle.zair_machine.specs.State.{State, Beams, idle, opening, IsAt, RestsLit, AreInRange, beams_of}
-use Rattle.zair_machine.specs.Legal.{IsLegal, IsPairOf}
+use Rattle.zair_state.specs.declared.place.Place.TheVariants.{Trap}
+use Rattle.zair_state.specs.State.{State, Beams, idle, opening, IsAt, RestsLit, AreInRange, beams_of}
+use Rattle.zair_state.specs.Legal.{IsLegal, IsPairOf}
 use Rattle.zac_plan.specs.Plan.{point_at, left, right}
 use Rattle.zac_plan.proofs.Lists.{any_from_contained, contained_in_none, contains_at}
 use Rattle.zac_plan.proofs.Carry.{in_trap, idle_at}

@@ -3,7 +3,7 @@ use Rattle.std.proofs.Common.{ℕ, ◌≤◌, List, [], ◌∷◌, arith}
 use Rattle.std.specs.List.{AllByRecursion}
 use Rattle.zair_form.specs.Ranges.{ProgramFits}
 use Rattle.zair_form.specs.declared.program.Instr.{Instr}
-use Rattle.zair_machine.specs.Chain.{end_of}
+use Rattle.zair_state.specs.Chain.{end_of}
 use Rattle.zac_plan.specs.Growth.{ActsFit}
 
 -- instructions of these times that do what is in range

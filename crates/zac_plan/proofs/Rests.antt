@@ -6,9 +6,9 @@ use Rattle.zac_arch.specs.Rules.{KeepsRules}
 use Rattle.zac_arch.specs.declared.place.TrapId.{TrapId}
 use Rattle.zac_arch.proofs.Geometry.{figure_ranges, on_the_field}
 use Rattle.zair_form.specs.declared.step.Step.{Step}
-use Rattle.zair_machine.specs.declared.place.Place.TheVariants.{Trap}
-use Rattle.zair_machine.specs.State.{State, idle, opening}
-use Rattle.zair_machine.specs.Run.{IsLegalRun, after_all}
+use Rattle.zair_state.specs.declared.place.Place.TheVariants.{Trap}
+use Rattle.zair_state.specs.State.{State, idle, opening}
+use Rattle.zair_state.specs.Run.{IsLegalRun, after_all}
 use Rattle.zac_plan.specs.declared.shift.Shift.{Shift}
 use Rattle.zac_plan.specs.Plan.{point_at, carry_steps}
 use Rattle.zac_plan.proofs.Carry.{resting, run, result}

@@ -12,7 +12,7 @@ use Rattle.zair_form.specs.declared.program.Act.{Act}
 use Rattle.zair_form.specs.declared.program.Instr.{Instr}
 use Rattle.zac_plan.specs.declared.shift.Shift.{Shift}
 use Rattle.zac_plan.specs.declared.timeline.Timeline.{Timeline}
-use Rattle.zair_machine.specs.Chain.{IsChain, end_of}
+use Rattle.zair_state.specs.Chain.{IsChain, end_of}
 
 -- A timeline has grown by instructions that do exactly these acts, without a pause from where it stood, and stands now
 -- where the last of them ends. What the acts carry is in range.

@@ -3,8 +3,8 @@
 ghost use Rattle.std.specs.Prelude.{◌≡◌, ◌<◌, ◌≤◌, ◌↔◌, ◌⊎◌, IfOk, OnOk, IfErr, map, length, [], ◌∷◌, ◌++◌};
 ghost use Rattle.zac_arch.specs.Architecture.{storage_count, site_count};
 ghost use Rattle.zair_form.specs.Ranges.{ProgramFits};
-ghost use Rattle.zair_machine.specs.Chain.{IsChain, end_of};
-ghost use Rattle.zair_machine.specs.Performs.{Performs};
+ghost use Rattle.zair_state.specs.Chain.{IsChain, end_of};
+ghost use Rattle.zair_state.specs.Performs.{Performs};
 ghost use Rattle.zac_plan.specs.Growth.{ActsFit, IsStagingOf};
 ghost use Rattle.zac_plan.specs.Plan.{plan, homes_for, IsPlanned};
 
@@ -17,7 +17,7 @@ use zac_gates::{Circuit, List, Memory};
 use zac_stage::laws::{numbers_follow, pulses_are_filled};
 use zac_stage::{Stages, stage};
 use zair_form::{Instr, Program};
-use zair_machine::{chains_end_last, safe_chains_perform};
+use zair_state::{chains_end_last, safe_chains_perform};
 
 /// Why a circuit has no program.
 #[derive(Clone, Copy, Debug, PartialEq, Eq, Error)]

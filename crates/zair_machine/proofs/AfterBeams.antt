@@ -7,17 +7,17 @@ use Rattle.zair_form.specs.declared.step.Beam.{Beam}
 use Rattle.zair_form.specs.declared.step.Caught.{Caught}
 use Rattle.zair_form.specs.declared.step.Step.{Step}
 use Rattle.zair_form.specs.declared.step.Step.TheVariants.{Activate, Move}
-use Rattle.zair_machine.specs.declared.fault.Axis.{Axis}
-use Rattle.zair_machine.specs.declared.fault.MachineFault.TheVariants.{Busy, NotActive, Limit}
-use Rattle.zair_machine.specs.State.{State}
-use Rattle.zair_machine.specs.Result.{with_beam, with_beams}
-use Rattle.zair_machine.specs.Invariant.{IsSound, AreInOrder}
-use Rattle.zair_machine.specs.Faults.{along, active, ids}
-use Rattle.zair_machine.specs.FirstFault.{AreMetBefore}
-use Rattle.zair_machine.proofs.Membership.{contains_none, pairs_none}
-use Rattle.zair_machine.proofs.BeamLists.{Rising, length_with_beam, rising_with_beams, same_ids_same_length, has_id}
-use Rattle.zair_machine.proofs.NothingBroken.{each_axis}
-use Rattle.zair_machine.proofs.MadeLegal.{few_from, once_from, sure, told_id}
+use Rattle.zair_state.specs.declared.fault.Axis.{Axis}
+use Rattle.zair_state.specs.declared.fault.MachineFault.TheVariants.{Busy, NotActive, Limit}
+use Rattle.zair_state.specs.State.{State}
+use Rattle.zair_state.specs.Result.{with_beam, with_beams}
+use Rattle.zair_state.specs.Invariant.{IsSound, AreInOrder}
+use Rattle.zair_state.specs.Faults.{along, active, ids}
+use Rattle.zair_state.specs.FirstFault.{AreMetBefore}
+use Rattle.zair_state.proofs.Membership.{contains_none, pairs_none}
+use Rattle.zair_state.proofs.BeamLists.{Rising, length_with_beam, rising_with_beams, same_ids_same_length, has_id}
+use Rattle.zair_state.proofs.NothingBroken.{each_axis}
+use Rattle.zair_state.proofs.MadeLegal.{few_from, once_from, sure, told_id}
 use Rattle.zair_machine.proofs.BeamFaults.{has_either}
 
 -- no beam up to the k-th has a greater id

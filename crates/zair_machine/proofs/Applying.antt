@@ -10,17 +10,17 @@ use Rattle.zair_form.specs.declared.step.Beam.{Beam}
 use Rattle.zair_form.specs.declared.step.Caught.{Caught}
 use Rattle.zair_form.specs.declared.step.Dropped.{Dropped}
 use Rattle.zair_form.specs.declared.step.Step.TheVariants.{Move}
-use Rattle.zair_machine.specs.declared.place.Place.{Place}
-use Rattle.zair_machine.specs.declared.place.Place.TheVariants.{Trap, Held}
-use Rattle.zair_machine.specs.State.{State, Beams, idle, beams_of}
-use Rattle.zair_machine.specs.Legal.{Picks, Drops}
-use Rattle.zair_machine.specs.Result.{after, after_catching, after_dropping, with_beams, without_beams}
-use Rattle.zair_machine.specs.Invariant.{IsSound}
+use Rattle.zair_state.specs.declared.place.Place.{Place}
+use Rattle.zair_state.specs.declared.place.Place.TheVariants.{Trap, Held}
+use Rattle.zair_state.specs.State.{State, Beams, idle, beams_of}
+use Rattle.zair_state.specs.Legal.{Picks, Drops}
+use Rattle.zair_state.specs.Result.{after, after_catching, after_dropping, with_beams, without_beams}
+use Rattle.zair_state.specs.Invariant.{IsSound}
 use Rattle.zair_machine.specs.Machine.{IsKept}
-use Rattle.zair_machine.proofs.Membership.{all_from_contains}
-use Rattle.zair_machine.proofs.BeamLists.{stays, among, found, length-without}
+use Rattle.zair_state.proofs.Membership.{all_from_contains}
+use Rattle.zair_state.proofs.BeamLists.{stays, among, found, length-without}
 use Rattle.zair_machine.proofs.AfterBeams.{length_with_beams}
-use Rattle.zair_machine.proofs.Changing.{changes_of}
+use Rattle.zair_state.proofs.Changing.{changes_of}
 
 unlisted_stays : (ids : List ℕ) (n : ℕ) → ¬ Contains ids n → list_any (λ id. eqb id n) ids ≡ false
 unlisted_stays ids n h = elim (cases_Bool (list_any (λ id. eqb id n) ids)) [ inl t ↦ absurd (h (found ids n t)) | inr f ↦ f ]

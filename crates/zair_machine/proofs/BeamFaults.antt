@@ -10,17 +10,17 @@ use Rattle.zair_form.specs.declared.step.Caught.{Caught}
 use Rattle.zair_form.specs.declared.step.Dropped.{Dropped}
 use Rattle.zair_form.specs.declared.step.Step.{Step}
 use Rattle.zair_form.specs.declared.step.Step.TheVariants.{Activate, Move, Deactivate, Pulse, Readout}
-use Rattle.zair_machine.specs.declared.fault.Axis.{Axis}
-use Rattle.zair_machine.specs.declared.fault.Axis.TheVariants.{Row, Column}
-use Rattle.zair_machine.specs.declared.fault.BeamId.{BeamId}
-use Rattle.zair_machine.specs.State.{State, HasId}
-use Rattle.zair_machine.specs.Result.{with_beam, with_beams}
-use Rattle.zair_machine.specs.Faults.{along, active, ids, IsTwice, IsBusy, IsNotActive, IsPastLimit, IsOneTooMany, IsOffField, named_beam, IsUnknown, AreNeighbours, IsOutOfOrder, IsTooNear, beams_after}
-use Rattle.zair_machine.specs.FirstFault.{ComesBefore, beam_numbers}
-use Rattle.zair_machine.specs.Least.{IsLeastOf, lesser_of, first_beam_of, IsFirstBeam}
-use Rattle.zair_machine.proofs.Membership.{contains_none, any_contained, any_from_contained}
-use Rattle.zair_machine.proofs.BeamLists.{has_id, beam_of_id, contained_in_with_beams, with_beams_new, with_beams_old}
-use Rattle.zair_machine.proofs.Minima.{Same, least_of_either, least_same}
+use Rattle.zair_state.specs.declared.fault.Axis.{Axis}
+use Rattle.zair_state.specs.declared.fault.Axis.TheVariants.{Row, Column}
+use Rattle.zair_state.specs.declared.fault.BeamId.{BeamId}
+use Rattle.zair_state.specs.State.{State, HasId}
+use Rattle.zair_state.specs.Result.{with_beam, with_beams}
+use Rattle.zair_state.specs.Faults.{along, active, ids, IsTwice, IsBusy, IsNotActive, IsPastLimit, IsOneTooMany, IsOffField, named_beam, IsUnknown, AreNeighbours, IsOutOfOrder, IsTooNear, beams_after}
+use Rattle.zair_state.specs.FirstFault.{ComesBefore, beam_numbers}
+use Rattle.zair_state.specs.Least.{IsLeastOf, lesser_of, first_beam_of, IsFirstBeam}
+use Rattle.zair_state.proofs.Membership.{contains_none, any_contained, any_from_contained}
+use Rattle.zair_state.proofs.BeamLists.{has_id, beam_of_id, contained_in_with_beams, with_beams_new, with_beams_old}
+use Rattle.zair_state.proofs.Minima.{Same, least_of_either, least_same}
 
 not_before : (k m n : ℕ) → n ≤ m → ¬ ComesBefore (0 ∷ k ∷ m ∷ []) (0 ∷ k ∷ n ∷ [])
 not_before k m n le h = elim h [

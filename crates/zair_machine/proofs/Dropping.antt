@@ -6,14 +6,14 @@ use Rattle.zac_arch.specs.declared.place.Point.{Point}
 use Rattle.zac_arch.specs.declared.place.TrapId.{TrapId}
 use Rattle.zair_form.specs.declared.step.Beam.{Beam}
 use Rattle.zair_form.specs.declared.step.Dropped.{Dropped}
-use Rattle.zair_machine.specs.declared.place.Place.{Place}
-use Rattle.zair_machine.specs.declared.place.Place.TheVariants.{Trap, Held}
-use Rattle.zair_machine.specs.Legal.{Drops}
-use Rattle.zair_machine.specs.State.{State, IsAt, HasId, beams_of, crossing}
-use Rattle.zair_machine.proofs.Membership.{contained_in_map, contains_map, any_contained, any_from_contained}
-use Rattle.zair_machine.proofs.BeamLists.{Rising, one_of_id, has_id}
-use Rattle.zair_machine.proofs.Minima.{Same, KeyOf}
-use Rattle.zair_machine.proofs.Picking.{held_same, place_same}
+use Rattle.zair_state.specs.declared.place.Place.{Place}
+use Rattle.zair_state.specs.declared.place.Place.TheVariants.{Trap, Held}
+use Rattle.zair_state.specs.Legal.{Drops}
+use Rattle.zair_state.specs.State.{State, IsAt, HasId, beams_of, crossing}
+use Rattle.zair_state.proofs.Membership.{contained_in_map, contains_map, any_contained, any_from_contained}
+use Rattle.zair_state.proofs.BeamLists.{Rising, one_of_id, has_id}
+use Rattle.zair_state.proofs.Minima.{Same, KeyOf}
+use Rattle.zair_state.proofs.Picking.{held_same, place_same}
 
 pub any_key : {X : Type 0} (key : X → ℕ) (xs : List X) (n : ℕ) → Same (Any (λ x. key x ≡ n) xs) (Contains (map key xs) n)
 any_key key xs n = (

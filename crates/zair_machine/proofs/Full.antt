@@ -7,11 +7,11 @@ use Rattle.zac_arch.specs.Architecture.{Architecture, StandsAt}
 use Rattle.zac_arch.specs.declared.place.Point.{Point}
 use Rattle.zac_arch.specs.declared.place.TrapId.{TrapId}
 use Rattle.zair_form.specs.declared.step.Beam.{Beam}
-use Rattle.zair_machine.specs.declared.place.Place.{Place}
-use Rattle.zair_machine.specs.declared.place.Place.TheVariants.{Trap, Held}
-use Rattle.zair_machine.specs.State.{State, IsAt, crossing}
-use Rattle.zair_machine.proofs.BeamLists.{Rising, one_of_id}
-use Rattle.zair_machine.proofs.Picking.{NoneBelow, held_same, place_same}
+use Rattle.zair_state.specs.declared.place.Place.{Place}
+use Rattle.zair_state.specs.declared.place.Place.TheVariants.{Trap, Held}
+use Rattle.zair_state.specs.State.{State, IsAt, crossing}
+use Rattle.zair_state.proofs.BeamLists.{Rising, one_of_id}
+use Rattle.zair_state.proofs.Picking.{NoneBelow, held_same, place_same}
 
 abbrev pub NoMove : ℕ → List Beam → List Beam → Place → Type 0
 NoMove aod rows columns place = (r c : Beam) → Contains rows r → Contains columns c → ¬ (place ≡ Held aod r.id c.id)

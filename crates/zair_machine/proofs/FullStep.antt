@@ -5,13 +5,13 @@ use Rattle.zac_arch.specs.declared.place.TrapId.{TrapId}
 use Rattle.zair_form.specs.declared.step.Beam.{Beam}
 use Rattle.zair_form.specs.declared.step.Step.{Step}
 use Rattle.zair_form.specs.declared.step.Step.TheVariants.{Move}
-use Rattle.zair_machine.specs.declared.fault.Axis.TheVariants.{Row, Column}
-use Rattle.zair_machine.specs.declared.fault.MachineFault.{MachineFault}
-use Rattle.zair_machine.specs.declared.fault.MachineFault.TheVariants.{TrapFull}
-use Rattle.zair_machine.specs.State.{State}
-use Rattle.zair_machine.specs.Result.{with_beams}
-use Rattle.zair_machine.specs.Faults.{beams_after, IsTrapFull}
-use Rattle.zair_machine.specs.FirstFault.{Breaks, ComesBefore, numbers, condition, Tells}
+use Rattle.zair_state.specs.declared.fault.Axis.TheVariants.{Row, Column}
+use Rattle.zair_state.specs.declared.fault.MachineFault.{MachineFault}
+use Rattle.zair_state.specs.declared.fault.MachineFault.TheVariants.{TrapFull}
+use Rattle.zair_state.specs.State.{State}
+use Rattle.zair_state.specs.Result.{with_beams}
+use Rattle.zair_state.specs.Faults.{beams_after, IsTrapFull}
+use Rattle.zair_state.specs.FirstFault.{Breaks, ComesBefore, numbers, condition, Tells}
 use Rattle.zair_machine.proofs.Full.{FullAt}
 
 -- the first qubit and trap with the property, where each qubit has it with one trap at most

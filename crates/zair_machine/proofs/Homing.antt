@@ -13,16 +13,16 @@ use Rattle.zac_arch.specs.Architecture.{Architecture, storage_count, trap_count}
 use Rattle.zac_arch.specs.declared.place.TrapId.{TrapId}
 use Rattle.zac_arch.specs.Rules.{KeepsRules}
 use Rattle.zac_arch.specs.declared.card.Figures.{Figures}
-use Rattle.zair_machine.specs.declared.place.Place.{Place}
+use Rattle.zair_state.specs.declared.place.Place.{Place}
 use Rattle.zac_arch.proofs.Geometry.{storage_count_most, trap_count_is}
-use Rattle.zair_machine.specs.declared.place.Place.TheVariants.{Trap}
-use Rattle.zair_machine.specs.Least.{IsLeastOf}
-use Rattle.zair_machine.specs.Legal.{AreOnce}
+use Rattle.zair_state.specs.declared.place.Place.TheVariants.{Trap}
+use Rattle.zair_state.specs.Least.{IsLeastOf}
+use Rattle.zair_state.specs.Legal.{AreOnce}
 use Rattle.zair_machine.specs.Machine.{IsKept, IsWrongHome}
-use Rattle.zair_machine.specs.State.{Beams, idle, opening}
+use Rattle.zair_state.specs.State.{Beams, idle, opening}
 use Rattle.zair_machine.proofs.Full.{same_trap_number}
-use Rattle.zair_machine.proofs.Picking.{NoneBelow, none_below_more, none_of_all, first_of_all}
-use Rattle.zair_machine.proofs.Soundness.{opening_sound}
+use Rattle.zair_state.proofs.Picking.{NoneBelow, none_below_more, none_of_all, first_of_all}
+use Rattle.zair_state.proofs.Soundness.{opening_sound}
 
 pub read_mark : (taken : List Bool) (t : ℕ) (b c : Bool) → t < length taken → b ≡ get_or taken t b → b ≡ c → get_or taken t false ≡ c
 read_mark taken t b c lt e f = sym (get_or_default taken t b false lt) ∙ sym e ∙ f

@@ -10,10 +10,10 @@ use Rattle.zac_arch.specs.Architecture.{Architecture, StandsAt, trap_points}
 use Rattle.zac_arch.specs.Distances.{difference, IsFarther, IsWithin}
 use Rattle.zac_arch.specs.declared.place.Point.{Point}
 use Rattle.zair_form.specs.declared.step.Beam.{Beam}
-use Rattle.zair_machine.specs.Least.{IsLeastOf}
-use Rattle.zair_machine.specs.State.{State, Beams, idle, beams_of, EachCrossing, crossing, IsFreeOfOthers, IsClear}
-use Rattle.zair_machine.proofs.Membership.{contains_none, any_contained, any_from_contained, all_from_contains}
-use Rattle.zair_machine.proofs.Minima.{Same, not_same}
+use Rattle.zair_state.specs.Least.{IsLeastOf}
+use Rattle.zair_state.specs.State.{State, Beams, idle, beams_of, EachCrossing, crossing, IsFreeOfOthers, IsClear}
+use Rattle.zair_state.proofs.Membership.{contains_none, any_contained, any_from_contained, all_from_contains}
+use Rattle.zair_state.proofs.Minima.{Same, not_same}
 
 -- the distance of the nearest of these beams
 abbrev pub NearestAt : List Beam → ℕ → Option ℕ → Type 0

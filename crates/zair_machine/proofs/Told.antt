@@ -3,14 +3,14 @@ use Rattle.std.proofs.Common.{◌≡◌, ℕ, ◌+◌, ◌<◌, ◌≤◌, ◌�
 use Rattle.std.proofs.lemmas.Bool.{cases_lt}
 use Rattle.zac_arch.specs.Architecture.{Architecture}
 use Rattle.zair_form.specs.declared.step.Step.{Step}
-use Rattle.zair_machine.specs.declared.fault.BeamId.{BeamId}
-use Rattle.zair_machine.specs.declared.fault.MachineFault.{MachineFault}
-use Rattle.zair_machine.specs.declared.fault.MachineFault.TheVariants.{Unknown, Busy, NotActive, Limit, Order, Gap, Touch, PickWrong, DropWrong, TrapFull, PairWrong, LitAlone, NotAtRest, Crossing}
-use Rattle.zair_machine.specs.State.{State}
-use Rattle.zair_machine.specs.Faults.{IsUnknown, IsBusy, IsNotActive, IsPastLimit, IsOutOfOrder, IsTooNear, DoTouch, IsPickWrong, IsDropWrong, IsPairWrong, IsLitAlone}
-use Rattle.zair_machine.specs.FirstFault.{Breaks, IsFirstFault, ComesBefore, numbers, beam_numbers, condition, AreMetBefore, Tells}
-use Rattle.zair_machine.specs.Legal.{IsLegal}
-use Rattle.zair_machine.specs.Least.{IsLeastOf, IsLeastPairOf, IsFirstBeam}
+use Rattle.zair_state.specs.declared.fault.BeamId.{BeamId}
+use Rattle.zair_state.specs.declared.fault.MachineFault.{MachineFault}
+use Rattle.zair_state.specs.declared.fault.MachineFault.TheVariants.{Unknown, Busy, NotActive, Limit, Order, Gap, Touch, PickWrong, DropWrong, TrapFull, PairWrong, LitAlone, NotAtRest, Crossing}
+use Rattle.zair_state.specs.State.{State}
+use Rattle.zair_state.specs.Faults.{IsUnknown, IsBusy, IsNotActive, IsPastLimit, IsOutOfOrder, IsTooNear, DoTouch, IsPickWrong, IsDropWrong, IsPairWrong, IsLitAlone}
+use Rattle.zair_state.specs.FirstFault.{Breaks, IsFirstFault, ComesBefore, numbers, beam_numbers, condition, AreMetBefore, Tells}
+use Rattle.zair_state.specs.Legal.{IsLegal}
+use Rattle.zair_state.specs.Least.{IsLeastOf, IsLeastPairOf, IsFirstBeam}
 
 -- the list begins with this number
 abbrev Begins : List ℕ → ℕ → Type 0

@@ -4,9 +4,9 @@ use Rattle.std.specs.List.{AllPairs, Contains}
 use Rattle.std.proofs.lemmas.Bool.{cases_order}
 use Rattle.std.proofs.lemmas.List.{take_more, take_all, get_or_default, get_or-take, length-take}
 use Rattle.zair_form.specs.declared.step.Beam.{Beam}
-use Rattle.zair_machine.specs.Least.{IsLeastPairOf, IsNoLater}
-use Rattle.zair_machine.proofs.Membership.{contains_none}
-use Rattle.zair_machine.proofs.Minima.{contains_end}
+use Rattle.zair_state.specs.Least.{IsLeastPairOf, IsNoLater}
+use Rattle.zair_state.proofs.Membership.{contains_none}
+use Rattle.zair_state.proofs.Minima.{contains_end}
 
 module _ (T : Beam → Beam → Type 0) where
   -- no crossing of these rows and columns has the property

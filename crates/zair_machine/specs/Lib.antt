@@ -1,16 +1,1 @@
-pub mod State
-pub mod Result
-pub mod Legal
-pub mod Invariant
-pub mod Faults
-pub mod FirstFault
-pub mod Least
 pub mod Machine
-pub mod Run
-pub mod Orders
-pub mod Resources
-pub mod Examples
-pub mod Parking
-pub mod Homes
-pub mod Performs
-pub mod Chain

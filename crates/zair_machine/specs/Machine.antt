@@ -2,11 +2,11 @@
 use Rattle.std.specs.Prelude.{◌≡◌, ℕ, ◌≤◌, ◌<◌, ◌⊎◌, Some, List, length, slice_get}
 use Rattle.zac_arch.specs.Architecture.{Architecture, storage_count}
 use Rattle.zac_arch.specs.declared.place.TrapId.{TrapId}
-use Rattle.zair_machine.specs.declared.fault.NewFault.{NewFault}
-use Rattle.zair_machine.specs.declared.fault.NewFault.TheVariants as fault
-use Rattle.zair_machine.specs.Least.{IsLeastOf}
-use Rattle.zair_machine.specs.State.{State}
-use Rattle.zair_machine.specs.Invariant.{IsSound}
+use Rattle.zair_state.specs.declared.fault.NewFault.{NewFault}
+use Rattle.zair_state.specs.declared.fault.NewFault.TheVariants as fault
+use Rattle.zair_state.specs.Least.{IsLeastOf}
+use Rattle.zair_state.specs.State.{State}
+use Rattle.zair_state.specs.Invariant.{IsSound}
 
 -- The card of a machine, and the state that it is in.
 pub record Running : Type 0 where

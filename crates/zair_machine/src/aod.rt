@@ -12,7 +12,7 @@ pub(crate) struct Aod {
 }
 
 impl Model for Aod {
-    ghost use Rattle.zair_machine.specs.State.{Beams};
+    ghost use Rattle.zair_state.specs.State.{Beams};
 
     ghost Value = { Beams };
 
@@ -21,7 +21,7 @@ impl Model for Aod {
 
 impl Aod {
     ghost use Rattle.std.specs.Prelude.{◌≡◌};
-    ghost use Rattle.zair_machine.specs.State.{idle};
+    ghost use Rattle.zair_state.specs.State.{idle};
 
     /// An AOD without a beam.
     pub(crate) fn idle() -> Aod

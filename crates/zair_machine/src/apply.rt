@@ -3,15 +3,14 @@
 ghost use Rattle.std.specs.Prelude.{◌≡◌, ◌<◌, length};
 ghost use Rattle.std.specs.List.{All};
 ghost use Rattle.zair_form.specs.declared.step.Step.TheVariants.{Activate, Move, Deactivate};
-ghost use Rattle.zair_machine.specs.Legal.{IsLegal};
-ghost use Rattle.zair_machine.specs.Result.{after, after_catching, after_dropping};
+ghost use Rattle.zair_state.specs.Legal.{IsLegal};
+ghost use Rattle.zair_state.specs.Result.{after, after_catching, after_dropping};
 
 use crate::aod::Aod;
 use crate::beams::{with_all, without_all};
-use crate::laws::legal_steps_keep_states_sound;
 use crate::machine::Machine;
-use crate::place::Place;
 use zair_form::{Beam, Caught, Dropped, Step};
+use zair_state::{Place, legal_steps_keep_states_sound};
 
 /// Puts each listed atom at the crossing that is listed with it.
 fn catch_all(places: &mut [Place], aod: u8, atoms: &[Caught])

@@ -4,19 +4,19 @@ ghost use Rattle.std.specs.Prelude.{◌≡◌, ℕ, ◌+◌, ◌<◌, ◌≤◌,
 ghost use Rattle.std.specs.List.{Any, Contains};
 ghost use Rattle.std.specs.Prelude.{insert};
 ghost use Rattle.arrayvec.specs.ArrayVec.{array_vec_len};
-ghost use Rattle.zair_machine.specs.Result.{with_beam};
+ghost use Rattle.zair_state.specs.Result.{with_beam};
 ghost use Rattle.zac_arch.specs.Distances.{difference};
 ghost use Rattle.zair_form.specs.declared.step.Beam.{Beam};
-ghost use Rattle.zair_machine.specs.Faults.{IsTwice, ids, IsOffField, named_beam, AreNeighbours};
-ghost use Rattle.zair_machine.specs.Least.{IsLeastOf};
-ghost use Rattle.zair_machine.specs.Result.{with_beams, without_beams};
-ghost use Rattle.zair_machine.specs.State.{HasId};
+ghost use Rattle.zair_state.specs.Faults.{IsTwice, ids, IsOffField, named_beam, AreNeighbours};
+ghost use Rattle.zair_state.specs.Least.{IsLeastOf};
+ghost use Rattle.zair_state.specs.Result.{with_beams, without_beams};
+ghost use Rattle.zair_state.specs.State.{HasId};
 
-use crate::fault::Axis;
 use crate::least::{lesser_id_if, lesser_if};
 use arrayvec::ArrayVec;
 use zac_arch::Point;
 use zair_form::{Beam, Caught};
+use zair_state::Axis;
 
 /// Whether one of the beams has this id.
 pub(crate) fn has_id(beams: &[Beam], id: u8) -> bool

@@ -1,18 +1,18 @@
 //! What is wrong with the beams that a step lists.
 
 ghost use Rattle.std.specs.Prelude.{◌≡◌, ◌<◌, ◌⊎◌, length, ℕ};
-ghost use Rattle.zair_machine.specs.declared.fault.BeamId.{BeamId};
-ghost use Rattle.zair_machine.specs.Faults.{along, IsBusy, IsNotActive, IsPastLimit};
-ghost use Rattle.zair_machine.specs.Least.{IsLeastOf, IsFirstBeam};
+ghost use Rattle.zair_state.specs.declared.fault.BeamId.{BeamId};
+ghost use Rattle.zair_state.specs.Faults.{along, IsBusy, IsNotActive, IsPastLimit};
+ghost use Rattle.zair_state.specs.Least.{IsLeastOf, IsFirstBeam};
 
 use crate::beams::{
     least_id_not_in, least_id_twice, least_in_both, least_named_in_neither, least_not_in,
     least_off_field, least_too_many, least_twice,
 };
-use crate::fault::{Axis, BeamId};
 use crate::least::{first_beam, lesser_id};
 use crate::machine::Machine;
 use zair_form::Step;
+use zair_state::{Axis, BeamId};
 
 /// Of rows and columns, those of the axis.
 pub(crate) fn along<'a, T>(axis: Axis, rows: &'a [T], columns: &'a [T]) -> &'a [T]

@@ -4,22 +4,21 @@ ghost use Rattle.std.specs.Prelude.{◌≡◌, ◌<◌, ◌≤◌, ◌⊎◌, �
 ghost use Rattle.std.specs.List.{AllPairs, Any, Contains};
 ghost use Rattle.zair_form.specs.declared.step.Beam.{Beam};
 ghost use Rattle.zair_form.specs.declared.step.Step.TheVariants.{Activate, Move};
-ghost use Rattle.zair_machine.specs.declared.fault.BeamId.{BeamId};
-ghost use Rattle.zair_machine.specs.Faults.{beams_after, IsOutOfOrder, IsTooNear, TouchesAt, IsOnTrapWithAtom, DoTouch};
-ghost use Rattle.zair_machine.specs.FirstFault.{AreMetBefore};
-ghost use Rattle.zair_machine.specs.Least.{IsLeastOf, IsFirstBeam, IsLeastPairOf};
-ghost use Rattle.zair_machine.specs.Invariant.{IsSound};
-ghost use Rattle.zair_machine.specs.State.{HasId};
+ghost use Rattle.zair_state.specs.declared.fault.BeamId.{BeamId};
+ghost use Rattle.zair_state.specs.Faults.{beams_after, IsOutOfOrder, IsTooNear, TouchesAt, IsOnTrapWithAtom, DoTouch};
+ghost use Rattle.zair_state.specs.FirstFault.{AreMetBefore};
+ghost use Rattle.zair_state.specs.Least.{IsLeastOf, IsFirstBeam, IsLeastPairOf};
+ghost use Rattle.zair_state.specs.Invariant.{IsSound};
+ghost use Rattle.zair_state.specs.State.{HasId};
 
 use crate::beams::{has_id, least_out_of_order, least_too_near, with_all};
 use crate::busy::along;
-use crate::fault::{Axis, BeamId};
 use crate::least::{first_beam, lesser_id_if};
 use crate::machine::Machine;
-use crate::place::Place;
 use arrayvec::ArrayVec;
 use zac_arch::Point;
 use zair_form::{Beam, Caught, Step};
+use zair_state::{Axis, BeamId, Place};
 
 /// Whether a row or a column of these ids is among the new ones.
 pub(crate) fn is_new(rows: &[Beam], columns: &[Beam], row: u8, column: u8) -> bool

@@ -5,19 +5,18 @@ ghost use Rattle.std.specs.List.{AllPairs, All, Any, Contains};
 ghost use Rattle.zac_arch.specs.Architecture.{StandsAt, trap_count};
 ghost use Rattle.zac_arch.specs.declared.place.TrapId.{TrapId};
 ghost use Rattle.zair_form.specs.declared.step.Beam.{Beam};
-ghost use Rattle.zair_machine.specs.declared.place.Place.TheVariants.{Trap, Held};
-ghost use Rattle.zair_machine.specs.Faults.{IsTwice};
-ghost use Rattle.zair_machine.specs.Legal.{Drops};
-ghost use Rattle.zair_machine.specs.Least.{IsLeastOf};
-ghost use Rattle.zair_machine.specs.State.{IsAt, beams_of, crossing};
+ghost use Rattle.zair_state.specs.declared.place.Place.TheVariants.{Trap, Held};
+ghost use Rattle.zair_state.specs.Faults.{IsTwice};
+ghost use Rattle.zair_state.specs.Legal.{Drops};
+ghost use Rattle.zair_state.specs.Least.{IsLeastOf};
+ghost use Rattle.zair_state.specs.State.{IsAt, beams_of, crossing};
 
 use crate::beams::{is_listed, point_of};
-use crate::fault::Axis;
 use crate::least::{lesser, lesser_if};
 use crate::machine::Machine;
-use crate::place::Place;
 use zac_arch::{Point, TrapId, laws_of_traps};
 use zair_form::{Beam, Dropped};
+use zair_state::{Axis, Place};
 
 /// Whether a row or a column is switched off.
 fn vanishes(rows: &[u8], columns: &[u8], row: u8, column: u8) -> bool

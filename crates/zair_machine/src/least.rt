@@ -1,9 +1,9 @@
 //! The least of numbers of which any may be missing.
 
 ghost use Rattle.std.specs.Prelude.{◌≡◌, Option, Some, None};
-ghost use Rattle.zair_machine.specs.Least.{lesser_of, number_if, first_beam_of};
+ghost use Rattle.zair_state.specs.Least.{lesser_of, number_if, first_beam_of};
 
-use crate::fault::{Axis, BeamId};
+use zair_state::{Axis, BeamId};
 
 /// The lesser of two numbers.
 pub(crate) fn lesser(a: Option<u32>, b: Option<u32>) -> Option<u32>

@@ -6,18 +6,17 @@ ghost use Rattle.zac_arch.specs.Architecture.{StandsAt, IsLit};
 ghost use Rattle.zac_arch.specs.declared.place.Point.{Point};
 ghost use Rattle.zair_form.specs.declared.step.Beam.{Beam};
 ghost use Rattle.zair_form.specs.declared.step.PairOf.{PairOf};
-ghost use Rattle.zair_machine.specs.Faults.{IsHeld, IsNotAtRest, IsPairWrong, IsCrossingLit};
-ghost use Rattle.zair_machine.specs.FirstFault.{AreMetBefore};
-ghost use Rattle.zair_machine.specs.Legal.{IsPairOf};
-ghost use Rattle.zair_machine.specs.Least.{IsLeastOf, IsLeastPairOf, IsLeastTripleOf};
-ghost use Rattle.zair_machine.specs.State.{IsAt, RestsLit, AreInRange, crossing, beams_of};
+ghost use Rattle.zair_state.specs.Faults.{IsHeld, IsNotAtRest, IsPairWrong, IsCrossingLit};
+ghost use Rattle.zair_state.specs.FirstFault.{AreMetBefore};
+ghost use Rattle.zair_state.specs.Legal.{IsPairOf};
+ghost use Rattle.zair_state.specs.Least.{IsLeastOf, IsLeastPairOf, IsLeastTripleOf};
+ghost use Rattle.zair_state.specs.State.{IsAt, RestsLit, AreInRange, crossing, beams_of};
 
-use crate::fault::Axis;
 use crate::least::{lesser_id_if, lesser_if};
 use crate::machine::Machine;
-use crate::place::Place;
 use zac_arch::{Point, TrapId, within};
 use zair_form::{Beam, PairOf, ReadOf, Step};
+use zair_state::{Axis, Place};
 
 /// Whether a pair has these two qubits, in either order.
 fn is_pair_of(p: PairOf, q: u32, r: u32) -> bool

@@ -3,19 +3,18 @@
 ghost use Rattle.std.specs.Prelude.{◌≡◌, ℕ, ◌<◌, ◌↔◌, ◌≢◌, IsTrue, IfErr, MatchOption, OnOk, length};
 ghost use Rattle.zac_arch.specs.Architecture.{StandsAt, IsLit};
 ghost use Rattle.zac_arch.specs.Distances.{IsFarther};
-ghost use Rattle.zair_machine.specs.Faults.{active};
-ghost use Rattle.zair_machine.specs.FirstFault.{IsFirstFault};
-ghost use Rattle.zair_machine.specs.Legal.{IsLegal};
-ghost use Rattle.zair_machine.specs.Result.{after};
-ghost use Rattle.zair_machine.specs.State.{IsAt, EachCrossing, crossing, IsFreeOfOthers, IsClear, beams_of};
+ghost use Rattle.zair_state.specs.Faults.{active};
+ghost use Rattle.zair_state.specs.FirstFault.{IsFirstFault};
+ghost use Rattle.zair_state.specs.Legal.{IsLegal};
+ghost use Rattle.zair_state.specs.Result.{after};
+ghost use Rattle.zair_state.specs.State.{IsAt, EachCrossing, crossing, IsFreeOfOthers, IsClear, beams_of};
 
 use crate::aod::Aod;
 use crate::beams::distance_to;
-use crate::fault::{Axis, MachineFault};
-use crate::place::Place;
 use std::marker::Model;
 use zac_arch::{Card, Point, TrapId, within};
 use zair_form::{Beam, Step};
+use zair_state::{Axis, MachineFault, Place};
 
 /// A machine with a card, which it borrows, and a state. Contracts see both.
 ///

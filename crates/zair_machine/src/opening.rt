@@ -1,18 +1,17 @@
 //! The machine at the begin.
 
 ghost use Rattle.std.specs.Prelude.{◌≡◌, ℕ, IfOk, MatchResult, map, replicate};
-ghost use Rattle.zair_machine.specs.Least.{IsLeastOf};
+ghost use Rattle.zair_state.specs.Least.{IsLeastOf};
 ghost use Rattle.zair_machine.specs.Machine.{IsWrongHome, TellsHome};
-ghost use Rattle.zair_machine.specs.State.{idle, opening};
-ghost use Rattle.zair_machine.specs.declared.place.Place.TheVariants.{Trap};
+ghost use Rattle.zair_state.specs.State.{idle, opening};
+ghost use Rattle.zair_state.specs.declared.place.Place.TheVariants.{Trap};
 
 use crate::aod::Aod;
-use crate::fault::NewFault;
 use crate::machine::Machine;
-use crate::place::Place;
 use std::alloc::Global;
 use zac_arch::{Card, TrapId};
 use zac_gates::Memory;
+use zair_state::{NewFault, Place};
 
 /// The least qubit whose home is no storage trap, or that of a qubit of smaller number.
 fn first_wrong_home(alloc: Global, card: &Card, homes: &[TrapId]) -> Result<Option<u32>, Memory>

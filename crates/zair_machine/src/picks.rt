@@ -6,18 +6,18 @@ ghost use Rattle.zac_arch.specs.Architecture.{StandsAt};
 ghost use Rattle.zac_arch.specs.declared.place.TrapId.{TrapId};
 ghost use Rattle.zair_form.specs.declared.step.Beam.{Beam};
 ghost use Rattle.zair_form.specs.declared.step.Caught.{Caught};
-ghost use Rattle.zair_machine.specs.Faults.{AreSameCatch};
-ghost use Rattle.zair_machine.specs.Legal.{Picks};
-ghost use Rattle.zair_machine.specs.Least.{IsLeastOf};
-ghost use Rattle.zair_machine.specs.State.{IsAt, IsFreeOfOthers};
+ghost use Rattle.zair_state.specs.Faults.{AreSameCatch};
+ghost use Rattle.zair_state.specs.Legal.{Picks};
+ghost use Rattle.zair_state.specs.Least.{IsLeastOf};
+ghost use Rattle.zair_state.specs.State.{IsAt, IsFreeOfOthers};
 
 use crate::beams::point_of;
 use crate::crossings::is_new;
 use crate::least::lesser_if;
 use crate::machine::Machine;
-use crate::place::Place;
 use zac_arch::{Point, TrapId, laws_of_traps};
 use zair_form::{Beam, Caught};
+use zair_state::Place;
 
 /// Rows and columns.
 #[derive(Clone, Copy)]

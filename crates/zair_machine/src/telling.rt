@@ -3,19 +3,18 @@
 ghost use Rattle.std.specs.Prelude.{◌≡◌, ◌<◌, ◌⊎◌, ℕ, MatchOption};
 ghost use Rattle.std.specs.List.{AllPairs};
 ghost use Rattle.zac_arch.specs.declared.place.TrapId.{TrapId};
-ghost use Rattle.zair_machine.specs.Faults.{beams_after, IsPickWrong, IsDropWrong, IsLitAlone, IsTrapFull};
-ghost use Rattle.zair_machine.specs.Least.{IsLeastOf};
-ghost use Rattle.zair_machine.specs.FirstFault.{Breaks, IsFirstFault, AreMetBefore, Tells};
-ghost use Rattle.zair_machine.specs.Legal.{IsLegal};
+ghost use Rattle.zair_state.specs.Faults.{beams_after, IsPickWrong, IsDropWrong, IsLitAlone, IsTrapFull};
+ghost use Rattle.zair_state.specs.Least.{IsLeastOf};
+ghost use Rattle.zair_state.specs.FirstFault.{Breaks, IsFirstFault, AreMetBefore, Tells};
+ghost use Rattle.zair_state.specs.Legal.{IsLegal};
 
 use crate::drops::least_dropped_twice;
-use crate::fault::{Axis, MachineFault};
-use crate::laws::faults_tell_legal_steps;
 use crate::least::lesser;
 use crate::machine::Machine;
 use crate::picks::Listed;
 use zac_arch::TrapId;
 use zair_form::{Beam, Step};
+use zair_state::{Axis, MachineFault, faults_tell_legal_steps};
 
 impl<'a> Machine<'a> {
     /// The least unknown number, as a fault.

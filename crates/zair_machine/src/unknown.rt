@@ -6,8 +6,8 @@ ghost use Rattle.zair_form.specs.declared.step.Caught.{Caught};
 ghost use Rattle.zair_form.specs.declared.step.Dropped.{Dropped};
 ghost use Rattle.zair_form.specs.declared.step.PairOf.{PairOf};
 ghost use Rattle.zair_form.specs.declared.step.ReadOf.{ReadOf};
-ghost use Rattle.zair_machine.specs.Faults.{IsUnknown};
-ghost use Rattle.zair_machine.specs.Least.{IsLeastOf};
+ghost use Rattle.zair_state.specs.Faults.{IsUnknown};
+ghost use Rattle.zair_state.specs.Least.{IsLeastOf};
 
 use crate::least::{lesser, lesser_if};
 use crate::machine::Machine;

@@ -1,5 +1,5 @@
 use Rattle.std.proofs.Common.{◌≡◌, drop, length}
-use Rattle.zair_machine.specs.Result.{after_dropping}
+use Rattle.zair_state.specs.Result.{after_dropping}
 use Rattle.zair_machine.proofs.apply.drop_all.Given as goal
 
 abbrev pub invariant-loop-d : goal.invariant-loop-d

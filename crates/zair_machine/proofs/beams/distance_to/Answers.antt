@@ -2,7 +2,7 @@ use Rattle.std.proofs.Common.{◌≡◌, refl}
 use Rattle.std.specs.List.{Any}
 use Rattle.zac_arch.specs.Distances.{difference}
 use Rattle.zair_form.specs.declared.step.Beam.{Beam}
-use Rattle.zair_machine.proofs.Minima.{least_start, least_more, least_whole, at_any}
+use Rattle.zair_state.proofs.Minima.{least_start, least_more, least_whole, at_any}
 use Rattle.zair_machine.proofs.beams.distance_to.Goals as goal
 
 pub loop-b-init : goal.loop-b-init

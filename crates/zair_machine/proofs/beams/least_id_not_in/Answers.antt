@@ -1,7 +1,7 @@
 use Rattle.std.proofs.Common.{ℕ}
 use Rattle.std.specs.List.{Contains}
-use Rattle.zair_machine.specs.State.{HasId}
-use Rattle.zair_machine.proofs.Minima.{least_start, least_more, least_whole, any_id, not_same, same_trans, listed_with}
+use Rattle.zair_state.specs.State.{HasId}
+use Rattle.zair_state.proofs.Minima.{least_start, least_more, least_whole, any_id, not_same, same_trans, listed_with}
 use Rattle.zair_machine.proofs.beams.least_id_not_in.Goals as goal
 
 pub loop-id-init : goal.loop-id-init

@@ -1,4 +1,4 @@
-use Rattle.zair_machine.proofs.Minima.{least_twice_start, least_twice_listed, least_twice_listed_whole}
+use Rattle.zair_state.proofs.Minima.{least_twice_start, least_twice_listed, least_twice_listed_whole}
 use Rattle.zair_machine.proofs.beams.least_id_twice.Goals as goal
 
 pub loop-k-init : goal.loop-k-init

@@ -1,6 +1,6 @@
 use Rattle.std.proofs.Common.{ℕ, map, take}
-use Rattle.zair_machine.specs.Least.{IsLeastOf}
-use Rattle.zair_machine.specs.Faults.{IsTwice}
+use Rattle.zair_state.specs.Least.{IsLeastOf}
+use Rattle.zair_state.specs.Faults.{IsTwice}
 use Rattle.zair_machine.proofs.beams.least_id_twice.Given as goal
 
 abbrev pub invariant-loop-k : goal.invariant-loop-k

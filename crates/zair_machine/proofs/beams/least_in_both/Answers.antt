@@ -1,6 +1,6 @@
 use Rattle.zair_form.specs.declared.step.Beam.{Beam}
-use Rattle.zair_machine.specs.State.{HasId}
-use Rattle.zair_machine.proofs.Minima.{least_start, least_more, least_whole, any_id, same_trans, ids_with}
+use Rattle.zair_state.specs.State.{HasId}
+use Rattle.zair_state.proofs.Minima.{least_start, least_more, least_whole, any_id, same_trans, ids_with}
 use Rattle.zair_machine.proofs.beams.least_in_both.Goals as goal
 
 pub loop-b-init : goal.loop-b-init

@@ -1,9 +1,9 @@
 use Rattle.std.proofs.Common.{◌≡◌, ◌⊎◌, ℕ, not, IsTrue, subst}
 use Rattle.std.specs.List.{Any}
 use Rattle.zair_form.specs.declared.step.Caught.{Caught}
-use Rattle.zair_machine.specs.Faults.{named_beam}
-use Rattle.zair_machine.specs.State.{HasId}
-use Rattle.zair_machine.proofs.Minima.{Same, least_start, least_more, least_whole, any_with, either_id}
+use Rattle.zair_state.specs.Faults.{named_beam}
+use Rattle.zair_state.specs.State.{HasId}
+use Rattle.zair_state.proofs.Minima.{Same, least_start, least_more, least_whole, any_with, either_id}
 use Rattle.zair_machine.proofs.beams.least_named_in_neither.Goals as goal
 
 pub loop-c-init : goal.loop-c-init

@@ -1,8 +1,8 @@
 use Rattle.std.proofs.Common.{take}
 use Rattle.zair_form.specs.declared.step.Beam.{Beam}
-use Rattle.zair_machine.specs.Least.{IsLeastOf}
-use Rattle.zair_machine.specs.State.{HasId}
-use Rattle.zair_machine.proofs.Minima.{KeyOf}
+use Rattle.zair_state.specs.Least.{IsLeastOf}
+use Rattle.zair_state.specs.State.{HasId}
+use Rattle.zair_state.proofs.Minima.{KeyOf}
 use Rattle.zair_machine.proofs.beams.least_not_in.Given as goal
 
 abbrev pub invariant-loop-b : goal.invariant-loop-b

@@ -1,7 +1,7 @@
 use Rattle.std.proofs.Common.{◌<◌}
 use Rattle.zair_form.specs.declared.step.Beam.{Beam}
-use Rattle.zair_machine.specs.Faults.{IsOffField}
-use Rattle.zair_machine.proofs.Minima.{least_start, least_more, least_whole, told_less, off_with}
+use Rattle.zair_state.specs.Faults.{IsOffField}
+use Rattle.zair_state.proofs.Minima.{least_start, least_more, least_whole, told_less, off_with}
 use Rattle.zair_machine.proofs.beams.least_off_field.Goals as goal
 
 pub loop-b-init : goal.loop-b-init

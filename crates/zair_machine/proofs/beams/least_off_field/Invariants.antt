@@ -1,7 +1,7 @@
 use Rattle.std.proofs.Common.{◌<◌, take}
 use Rattle.zair_form.specs.declared.step.Beam.{Beam}
-use Rattle.zair_machine.specs.Least.{IsLeastOf}
-use Rattle.zair_machine.proofs.Minima.{KeyOf}
+use Rattle.zair_state.specs.Least.{IsLeastOf}
+use Rattle.zair_state.proofs.Minima.{KeyOf}
 use Rattle.zair_machine.proofs.beams.least_off_field.Given as goal
 
 abbrev pub invariant-loop-b : goal.invariant-loop-b

@@ -1,7 +1,7 @@
 use Rattle.std.proofs.Common.{◌≤◌}
 use Rattle.zair_form.specs.declared.step.Beam.{Beam}
-use Rattle.zair_machine.specs.Least.{IsLeastOf}
-use Rattle.zair_machine.proofs.Minima.{Behind}
+use Rattle.zair_state.specs.Least.{IsLeastOf}
+use Rattle.zair_state.proofs.Minima.{Behind}
 use Rattle.zair_machine.proofs.beams.least_out_of_order.Given as goal
 
 abbrev pub invariant-loop-k : goal.invariant-loop-k

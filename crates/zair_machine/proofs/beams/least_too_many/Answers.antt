@@ -1,7 +1,7 @@
 use Rattle.std.proofs.Common.{◌<◌, ◌+◌, leb, count_by, arith}
 use Rattle.zair_form.specs.declared.step.Beam.{Beam}
-use Rattle.zair_machine.specs.State.{HasId}
-use Rattle.zair_machine.proofs.Minima.{least_start, least_more, least_whole, same_trans, ids_with, told_less}
+use Rattle.zair_state.specs.State.{HasId}
+use Rattle.zair_state.proofs.Minima.{least_start, least_more, least_whole, same_trans, ids_with, told_less}
 use Rattle.zair_machine.proofs.beams.least_too_many.Goals as goal
 
 pub loop-b-init : goal.loop-b-init

@@ -1,6 +1,6 @@
 use Rattle.std.proofs.Common.{◌<◌, ◌+◌}
 use Rattle.zair_form.specs.declared.step.Beam.{Beam}
-use Rattle.zair_machine.proofs.Minima.{least_behind_start, least_behind_more, least_behind_whole}
+use Rattle.zair_state.proofs.Minima.{least_behind_start, least_behind_more, least_behind_whole}
 use Rattle.zair_machine.proofs.beams.least_too_near.Goals as goal
 
 pub loop-k-init : goal.loop-k-init

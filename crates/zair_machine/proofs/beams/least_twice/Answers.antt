@@ -1,6 +1,6 @@
 use Rattle.std.proofs.Common.{take}
 use Rattle.zair_form.specs.declared.step.Beam.{Beam}
-use Rattle.zair_machine.proofs.Minima.{least_twice_more, least_twice_start, least_twice_whole, any_id, same_trans}
+use Rattle.zair_state.proofs.Minima.{least_twice_more, least_twice_start, least_twice_whole, any_id, same_trans}
 use Rattle.zair_machine.proofs.beams.least_twice.Goals as goal
 
 pub loop-k-init : goal.loop-k-init

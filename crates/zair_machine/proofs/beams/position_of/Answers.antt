@@ -1,4 +1,4 @@
-use Rattle.zair_machine.proofs.Minima.{none_yet, none_next, none_at_all}
+use Rattle.zair_state.proofs.Minima.{none_yet, none_next, none_at_all}
 use Rattle.zair_machine.proofs.beams.position_of.Goals as goal
 
 pub loop-b-init : goal.loop-b-init

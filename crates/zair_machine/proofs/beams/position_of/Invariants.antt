@@ -1,5 +1,5 @@
 use Rattle.std.proofs.Common.{take}
-use Rattle.zair_machine.specs.State.{HasId}
+use Rattle.zair_state.specs.State.{HasId}
 use Rattle.zair_machine.proofs.beams.position_of.Given as goal
 
 abbrev pub invariant-loop-b : goal.invariant-loop-b

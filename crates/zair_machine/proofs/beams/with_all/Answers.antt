@@ -1,7 +1,7 @@
 use Rattle.std.proofs.Common.{List, length, get_or, sym, ap, ◌∙◌, arith}
 use Rattle.zair_form.specs.declared.step.Beam.{Beam}
 use Rattle.std.proofs.Common.{◌-◌}
-use Rattle.zair_machine.specs.Result.{with_beam}
+use Rattle.zair_state.specs.Result.{with_beam}
 use Rattle.zair_machine.proofs.AfterBeams.{put_one_more, none_put, all_put, length_put}
 use Rattle.zair_machine.proofs.beams.with_all.Goals as goal
 

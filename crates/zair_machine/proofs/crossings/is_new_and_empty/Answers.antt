@@ -1,6 +1,6 @@
 use Rattle.std.proofs.Common.{sym, ◌∙◌}
 use Rattle.std.proofs.lemmas.Bool.{false≢true}
-use Rattle.zair_machine.proofs.Minima.{same_or, any_id, not_same}
+use Rattle.zair_state.proofs.Minima.{same_or, any_id, not_same}
 use Rattle.zair_machine.proofs.crossings.is_new_and_empty.Goals as goal
 
 pub returns-then-not-is_new : goal.returns-then-not-is_new

@@ -1,6 +1,6 @@
 use Rattle.std.proofs.Common.{take}
 use Rattle.zair_form.specs.declared.step.Dropped.{Dropped}
-use Rattle.zair_machine.proofs.Minima.{same_trans, least_twice_start, least_twice_more, least_twice_whole}
+use Rattle.zair_state.proofs.Minima.{same_trans, least_twice_start, least_twice_more, least_twice_whole}
 use Rattle.zair_machine.proofs.Dropping.{any_key}
 use Rattle.zair_machine.proofs.drops.least_dropped_twice.Goals as goal
 

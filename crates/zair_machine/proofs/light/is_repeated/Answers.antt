@@ -2,7 +2,7 @@ use Rattle.std.proofs.Common.{get_or, sym, ◌∙◌, subst}
 use Rattle.std.proofs.lemmas.Bool.{false≢true}
 use Rattle.std.proofs.lemmas.Option.{slice_get-get_or, get_or_from_slice_get}
 use Rattle.zair_form.specs.declared.step.PairOf.{PairOf}
-use Rattle.zair_machine.specs.Legal.{IsPairOf}
+use Rattle.zair_state.specs.Legal.{IsPairOf}
 use Rattle.zair_machine.proofs.light.is_repeated.Goals as goal
 
 pub returns-then-not-is_pair_of : goal.returns-then-not-is_pair_of

@@ -1,7 +1,7 @@
 use Rattle.std.proofs.Common.{refl, sym, ◌∙◌}
 use Rattle.std.proofs.lemmas.Bool.{false≢true}
-use Rattle.zair_machine.proofs.Picking.{none_below_start, none_below_more}
-use Rattle.zair_machine.proofs.Pairs.{Repeated, twice_told, never_listed_twice}
+use Rattle.zair_state.proofs.Picking.{none_below_start, none_below_more}
+use Rattle.zair_state.proofs.Pairs.{Repeated, twice_told, never_listed_twice}
 use Rattle.zair_machine.proofs.light.lists_twice.Goals as goal
 
 pub loop-k-init : goal.loop-k-init

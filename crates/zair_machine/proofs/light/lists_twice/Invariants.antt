@@ -1,5 +1,5 @@
-use Rattle.zair_machine.proofs.Picking.{NoneBelow}
-use Rattle.zair_machine.proofs.Pairs.{Repeated}
+use Rattle.zair_state.proofs.Picking.{NoneBelow}
+use Rattle.zair_state.proofs.Pairs.{Repeated}
 use Rattle.zair_machine.proofs.light.lists_twice.Given as goal
 
 abbrev pub invariant-loop-k : goal.invariant-loop-k

@@ -2,8 +2,8 @@ use Rattle.std.proofs.Common.{◌+◌, inl, inr, List, sym, ◌∙◌, subst}
 use Rattle.std.specs.List.{Any}
 use Rattle.std.proofs.lemmas.Bool.{false≢true}
 use Rattle.zair_form.specs.declared.step.Caught.{Caught}
-use Rattle.zair_machine.specs.Faults.{AreSameCatch}
-use Rattle.zair_machine.proofs.Picking.{rest_of, others_told}
+use Rattle.zair_state.specs.Faults.{AreSameCatch}
+use Rattle.zair_state.proofs.Picking.{rest_of, others_told}
 use Rattle.zair_machine.proofs.picks.is_shared_with_another.Goals as goal
 
 pub returns-then-is_shared : goal.returns-then-is_shared

@@ -1,7 +1,7 @@
 use Rattle.std.proofs.Common.{◌≤◌, map}
 use Rattle.std.specs.List.{Contains}
 use Rattle.zair_form.specs.declared.step.Caught.{Caught}
-use Rattle.zair_machine.proofs.Minima.{least_start, least_more, least_whole, told_most, map_with}
+use Rattle.zair_state.proofs.Minima.{least_start, least_more, least_whole, told_most, map_with}
 use Rattle.zair_machine.proofs.unknown.least_caught.Goals as goal
 
 pub loop-c-init : goal.loop-c-init

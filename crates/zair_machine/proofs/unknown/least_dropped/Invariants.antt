@@ -1,7 +1,7 @@
 use Rattle.std.proofs.Common.{◌≤◌, take}
 use Rattle.zair_form.specs.declared.step.Dropped.{Dropped}
-use Rattle.zair_machine.specs.Least.{IsLeastOf}
-use Rattle.zair_machine.proofs.Minima.{KeyOf}
+use Rattle.zair_state.specs.Least.{IsLeastOf}
+use Rattle.zair_state.proofs.Minima.{KeyOf}
 use Rattle.zair_machine.proofs.unknown.least_dropped.Given as goal
 
 abbrev pub invariant-loop-d : goal.invariant-loop-d

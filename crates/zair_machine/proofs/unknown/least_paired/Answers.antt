@@ -1,10 +1,10 @@
 use Rattle.std.proofs.Common.{◌≤◌, List, [], ◌∷◌, subst}
 use Rattle.std.specs.List.{Contains, flat_map}
 use Rattle.std.proofs.lemmas.List.{take_all}
-use Rattle.zair_machine.proofs.Membership.{contains_none}
+use Rattle.zair_state.proofs.Membership.{contains_none}
 use Rattle.zair_form.specs.declared.step.PairOf.{PairOf}
-use Rattle.zair_machine.specs.Least.{IsLeastOf}
-use Rattle.zair_machine.proofs.Minima.{told_most, least_pair_more}
+use Rattle.zair_state.specs.Least.{IsLeastOf}
+use Rattle.zair_state.proofs.Minima.{told_most, least_pair_more}
 use Rattle.zair_machine.proofs.unknown.least_paired.Goals as goal
 
 pub loop-p-init : goal.loop-p-init

@@ -1,7 +1,7 @@
 use Rattle.std.proofs.Common.{◌≤◌, [], ◌∷◌, take}
 use Rattle.std.specs.List.{Contains, flat_map}
 use Rattle.zair_form.specs.declared.step.PairOf.{PairOf}
-use Rattle.zair_machine.specs.Least.{IsLeastOf}
+use Rattle.zair_state.specs.Least.{IsLeastOf}
 use Rattle.zair_machine.proofs.unknown.least_paired.Given as goal
 
 abbrev pub invariant-loop-p : goal.invariant-loop-p

@@ -5,11 +5,11 @@ use Rattle.zair_form.specs.declared.step.Beam.{Beam}
 use Rattle.zair_form.specs.declared.step.Caught.{Caught}
 use Rattle.zair_form.specs.declared.step.Step.{Step}
 use Rattle.zair_form.specs.declared.step.Step.TheVariants.{Activate}
-use Rattle.zair_machine.specs.declared.place.Place.{Place}
-use Rattle.zair_machine.specs.State.{State, Beams, beams_of}
+use Rattle.zair_state.specs.declared.place.Place.{Place}
+use Rattle.zair_state.specs.State.{State, Beams, beams_of}
 use Rattle.zair_machine.specs.Machine.{Running}
-use Rattle.zair_machine.specs.Legal.{IsLegal}
-use Rattle.zair_machine.specs.Result.{after, after_catching, with_beams}
+use Rattle.zair_state.specs.Legal.{IsLegal}
+use Rattle.zair_state.specs.Result.{after, after_catching, with_beams}
 use Rattle.zair_machine.proofs.Applying.{set_same, kept_so, written_back, read_beams, few_added, length_caught, picked_within}
 use Rattle.zair_machine.proofs.machine.Machine.activate.Goals as goal
 

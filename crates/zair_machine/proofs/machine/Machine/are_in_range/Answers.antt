@@ -1,8 +1,8 @@
 use Rattle.std.proofs.lemmas.Bool.{false≢true}
 use Rattle.zac_arch.specs.declared.place.Point.{Point}
-use Rattle.zair_machine.specs.State.{RestsLit}
-use Rattle.zair_machine.proofs.Minima.{at_some, at_none}
-use Rattle.zair_machine.proofs.Pairs.{range_told}
+use Rattle.zair_state.specs.State.{RestsLit}
+use Rattle.zair_state.proofs.Minima.{at_some, at_none}
+use Rattle.zair_state.proofs.Pairs.{range_told}
 use Rattle.zair_machine.proofs.machine.Machine.are_in_range.Goals as goal
 
 pub returns-in-Some-Some : goal.returns-in-Some-Some

@@ -1,5 +1,5 @@
 use Rattle.std.proofs.Common.{ℕ, ◌<◌}
-use Rattle.zair_machine.specs.State.{IsAt}
+use Rattle.zair_state.specs.State.{IsAt}
 use Rattle.zair_machine.proofs.machine.Machine.atom_at.Given as goal
 
 abbrev pub invariant-loop-q : goal.invariant-loop-q

@@ -1,8 +1,8 @@
 use Rattle.std.proofs.Common.{◌≡◌, List, [], length, sym, ap, ◌∙◌, subst, arith}
 use Rattle.zair_form.specs.declared.step.Beam.{Beam}
-use Rattle.zair_machine.specs.Result.{with_beams}
-use Rattle.zair_machine.specs.Faults.{along, active}
-use Rattle.zair_machine.proofs.BeamLists.{Rising}
+use Rattle.zair_state.specs.Result.{with_beams}
+use Rattle.zair_state.specs.Faults.{along, active}
+use Rattle.zair_state.proofs.BeamLists.{Rising}
 use Rattle.zair_machine.proofs.AfterBeams.{few_activated, rising_activated, rising_moved, few_moved}
 use Rattle.zair_machine.proofs.machine.Machine.beams_after.Goals as goal
 

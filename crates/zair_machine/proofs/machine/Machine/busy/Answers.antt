@@ -1,4 +1,4 @@
-use Rattle.zair_machine.specs.Faults.{IsBusy}
+use Rattle.zair_state.specs.Faults.{IsBusy}
 use Rattle.zair_machine.proofs.BeamFaults.{first_beam_told}
 use Rattle.zair_machine.proofs.machine.Machine.busy.Goals as goal
 

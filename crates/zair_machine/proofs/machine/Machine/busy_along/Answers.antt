@@ -1,5 +1,5 @@
 use Rattle.std.proofs.Common.{◌≡◌}
-use Rattle.zair_machine.specs.Faults.{along}
+use Rattle.zair_state.specs.Faults.{along}
 use Rattle.zair_machine.proofs.BeamFaults.{busy_activate, busy_move, busy_deactivate}
 use Rattle.zair_machine.proofs.machine.Machine.busy_along.Goals as goal
 

@@ -1,4 +1,4 @@
-use Rattle.zair_machine.proofs.Resting.{pulse_lit}
+use Rattle.zair_state.proofs.Resting.{pulse_lit}
 use Rattle.zair_machine.proofs.machine.Machine.crossing_lit.Goals as goal
 
 pub returns-in-Pulse : goal.returns-in-Pulse

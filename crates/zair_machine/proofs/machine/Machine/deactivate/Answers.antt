@@ -4,11 +4,11 @@ use Rattle.zac_arch.specs.declared.card.Figures.{Figures}
 use Rattle.zair_form.specs.declared.step.Dropped.{Dropped}
 use Rattle.zair_form.specs.declared.step.Step.{Step}
 use Rattle.zair_form.specs.declared.step.Step.TheVariants.{Deactivate}
-use Rattle.zair_machine.specs.declared.place.Place.{Place}
-use Rattle.zair_machine.specs.State.{State, Beams, beams_of}
+use Rattle.zair_state.specs.declared.place.Place.{Place}
+use Rattle.zair_state.specs.State.{State, Beams, beams_of}
 use Rattle.zair_machine.specs.Machine.{Running}
-use Rattle.zair_machine.specs.Legal.{IsLegal}
-use Rattle.zair_machine.specs.Result.{after, after_dropping, without_beams}
+use Rattle.zair_state.specs.Legal.{IsLegal}
+use Rattle.zair_state.specs.Result.{after, after_dropping, without_beams}
 use Rattle.zair_machine.proofs.Applying.{set_same, kept_so, written_back, read_beams, few_on, length_dropped, dropped_within}
 use Rattle.zair_machine.proofs.machine.Machine.deactivate.Goals as goal
 

@@ -1,4 +1,4 @@
-use Rattle.zair_machine.proofs.Minima.{at_some, at_none}
+use Rattle.zair_state.proofs.Minima.{at_some, at_none}
 use Rattle.zair_machine.proofs.Full.{NoMove, Moved, full_told, unmoved_full}
 use Rattle.zair_machine.proofs.machine.Machine.full_trap.Goals as goal
 

@@ -1,7 +1,7 @@
 use Rattle.std.proofs.Common.{ℕ}
 use Rattle.zac_arch.specs.Architecture.{StandsAt}
 use Rattle.zac_arch.specs.declared.place.TrapId.{TrapId}
-use Rattle.zair_machine.proofs.Minima.{at_none}
+use Rattle.zair_state.proofs.Minima.{at_none}
 use Rattle.zair_machine.proofs.machine.Machine.full_trap_at.Goals as goal
 
 pub returns-in-None : goal.returns-in-None

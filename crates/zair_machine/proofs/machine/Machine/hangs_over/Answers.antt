@@ -3,8 +3,8 @@ use Rattle.std.specs.List.{Contains}
 use Rattle.std.proofs.lemmas.Bool.{false≢true}
 use Rattle.zac_arch.specs.declared.place.Point.{Point}
 use Rattle.zair_form.specs.declared.step.Beam.{Beam}
-use Rattle.zair_machine.specs.State.{HasId, beams_of}
-use Rattle.zair_machine.proofs.Minima.{at_some, at_none}
+use Rattle.zair_state.specs.State.{HasId, beams_of}
+use Rattle.zair_state.proofs.Minima.{at_some, at_none}
 use Rattle.zair_machine.proofs.Dropping.{trap_not_hanging, hangs_told, hangs_nowhere}
 use Rattle.zair_machine.proofs.machine.Machine.hangs_over.Goals as goal
 

@@ -2,7 +2,7 @@ use Rattle.std.proofs.Common.{ℕ, IsTrue, refl, subst}
 use Rattle.zac_arch.specs.Architecture.{Architecture, StandsAt}
 use Rattle.zac_arch.specs.Distances.{IsFarther}
 use Rattle.zac_arch.specs.declared.place.Point.{Point}
-use Rattle.zair_machine.proofs.Minima.{Same}
+use Rattle.zair_state.proofs.Minima.{Same}
 use Rattle.zair_machine.proofs.Reaching.{clear_told, not_clear}
 use Rattle.zair_machine.proofs.machine.Machine.is_clear.Goals as goal
 

@@ -1,7 +1,7 @@
 use Rattle.std.proofs.lemmas.Bool.{false≢true}
 use Rattle.zac_arch.specs.declared.place.Point.{Point}
-use Rattle.zair_machine.specs.State.{RestsLit}
-use Rattle.zair_machine.proofs.Minima.{at_none}
+use Rattle.zair_state.specs.State.{RestsLit}
+use Rattle.zair_state.proofs.Minima.{at_none}
 use Rattle.zair_machine.proofs.machine.Machine.is_lit_alone.Goals as goal
 
 pub returns-in-None : goal.returns-in-None

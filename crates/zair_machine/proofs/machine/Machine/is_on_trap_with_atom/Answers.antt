@@ -2,9 +2,9 @@ use Rattle.std.proofs.Common.{ℕ}
 use Rattle.std.proofs.lemmas.Bool.{false≢true}
 use Rattle.zac_arch.specs.Architecture.{StandsAt}
 use Rattle.zac_arch.specs.declared.place.TrapId.{TrapId}
-use Rattle.zair_machine.specs.declared.place.Place.TheVariants.{Held}
-use Rattle.zair_machine.specs.State.{IsAt, crossing}
-use Rattle.zair_machine.proofs.Minima.{at_some, at_none}
+use Rattle.zair_state.specs.declared.place.Place.TheVariants.{Held}
+use Rattle.zair_state.specs.State.{IsAt, crossing}
+use Rattle.zair_state.proofs.Minima.{at_some, at_none}
 use Rattle.zair_machine.proofs.machine.Machine.is_on_trap_with_atom.Goals as goal
 
 pub returns-in-Some-Some : goal.returns-in-Some-Some

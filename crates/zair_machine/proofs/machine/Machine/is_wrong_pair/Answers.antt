@@ -1,6 +1,6 @@
 use Rattle.std.proofs.Common.{inl, refl, sym, ◌∙◌}
 use Rattle.std.proofs.lemmas.Bool.{false≢true}
-use Rattle.zair_machine.proofs.Pairs.{wrong_told}
+use Rattle.zair_state.proofs.Pairs.{wrong_told}
 use Rattle.zair_machine.proofs.machine.Machine.is_wrong_pair.Goals as goal
 
 pub returns-then-lists_twice : goal.returns-then-lists_twice

@@ -2,8 +2,8 @@ use Rattle.std.proofs.Common.{◌≡◌, ◌≢◌, inl, inr, ℕ, Some, get_or,
 use Rattle.std.proofs.lemmas.Bool.{false≢true}
 use Rattle.std.proofs.lemmas.Option.{get_or_from_slice_get}
 use Rattle.zair_form.specs.declared.step.Caught.{Caught}
-use Rattle.zair_machine.specs.Faults.{AreSameCatch}
-use Rattle.zair_machine.specs.Legal.{Picks}
+use Rattle.zair_state.specs.Faults.{AreSameCatch}
+use Rattle.zair_state.specs.Legal.{Picks}
 use Rattle.zair_machine.proofs.machine.Machine.is_wrong_pick.Goals as goal
 
 pub returns-then-not-picks : goal.returns-then-not-picks

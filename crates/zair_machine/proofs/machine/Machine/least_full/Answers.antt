@@ -1,7 +1,7 @@
 use Rattle.std.proofs.Common.{ℕ, subst, arith}
 use Rattle.zac_arch.specs.declared.place.TrapId.{TrapId}
 use Rattle.zair_machine.proofs.Full.{FullTrap, FullAt, full_first, never_at, none_full}
-use Rattle.zair_machine.proofs.Picking.{none_below_start, none_below_more}
+use Rattle.zair_state.proofs.Picking.{none_below_start, none_below_more}
 use Rattle.zair_machine.proofs.machine.Machine.least_full.Goals as goal
 
 pub loop-q-init : goal.loop-q-init

@@ -1,7 +1,7 @@
 use Rattle.std.proofs.Common.{ℕ}
 use Rattle.zac_arch.specs.declared.place.TrapId.{TrapId}
 use Rattle.zair_machine.proofs.Full.{FullAt}
-use Rattle.zair_machine.proofs.Picking.{NoneBelow}
+use Rattle.zair_state.proofs.Picking.{NoneBelow}
 use Rattle.zair_machine.proofs.machine.Machine.least_full.Given as goal
 
 abbrev pub invariant-loop-q : goal.invariant-loop-q

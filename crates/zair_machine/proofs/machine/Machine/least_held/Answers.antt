@@ -1,8 +1,8 @@
 use Rattle.std.proofs.Common.{◌≡◌}
 use Rattle.std.specs.List.{Any}
 use Rattle.zair_form.specs.declared.step.ReadOf.{ReadOf}
-use Rattle.zair_machine.specs.Faults.{IsHeld}
-use Rattle.zair_machine.proofs.Minima.{least_start, least_more, least_whole, any_with}
+use Rattle.zair_state.specs.Faults.{IsHeld}
+use Rattle.zair_state.proofs.Minima.{least_start, least_more, least_whole, any_with}
 use Rattle.zair_machine.proofs.machine.Machine.least_held.Goals as goal
 
 pub loop-r-init : goal.loop-r-init

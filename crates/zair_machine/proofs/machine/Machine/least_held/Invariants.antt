@@ -1,8 +1,8 @@
 use Rattle.std.proofs.Common.{take}
 use Rattle.zair_form.specs.declared.step.ReadOf.{ReadOf}
-use Rattle.zair_machine.specs.Faults.{IsHeld}
-use Rattle.zair_machine.specs.Least.{IsLeastOf}
-use Rattle.zair_machine.proofs.Minima.{KeyOf}
+use Rattle.zair_state.specs.Faults.{IsHeld}
+use Rattle.zair_state.specs.Least.{IsLeastOf}
+use Rattle.zair_state.proofs.Minima.{KeyOf}
 use Rattle.zair_machine.proofs.machine.Machine.least_held.Given as goal
 
 abbrev pub invariant-loop-r : goal.invariant-loop-r

@@ -3,9 +3,9 @@ use Rattle.std.specs.List.{Any, Contains}
 use Rattle.std.proofs.lemmas.Bool.{false≢true}
 use Rattle.std.proofs.lemmas.Option.{slice_get_within}
 use Rattle.zair_form.specs.declared.step.Dropped.{Dropped}
-use Rattle.zair_machine.specs.declared.place.Place.TheVariants.{Held}
-use Rattle.zair_machine.specs.State.{IsAt}
-use Rattle.zair_machine.proofs.Picking.{none_below_start, none_below_more, first_of_all, none_of_all}
+use Rattle.zair_state.specs.declared.place.Place.TheVariants.{Held}
+use Rattle.zair_state.specs.State.{IsAt}
+use Rattle.zair_state.proofs.Picking.{none_below_start, none_below_more, first_of_all, none_of_all}
 use Rattle.zair_machine.proofs.machine.Machine.least_left_behind.Goals as goal
 
 pub loop-q-init : goal.loop-q-init

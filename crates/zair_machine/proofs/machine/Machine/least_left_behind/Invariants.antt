@@ -1,9 +1,9 @@
 use Rattle.std.proofs.Common.{◌≡◌, ◌⊎◌, ℕ}
 use Rattle.std.specs.List.{Any, Contains}
 use Rattle.zair_form.specs.declared.step.Dropped.{Dropped}
-use Rattle.zair_machine.specs.declared.place.Place.TheVariants.{Held}
-use Rattle.zair_machine.specs.State.{IsAt}
-use Rattle.zair_machine.proofs.Picking.{NoneBelow}
+use Rattle.zair_state.specs.declared.place.Place.TheVariants.{Held}
+use Rattle.zair_state.specs.State.{IsAt}
+use Rattle.zair_state.proofs.Picking.{NoneBelow}
 use Rattle.zair_machine.proofs.machine.Machine.least_left_behind.Given as goal
 
 abbrev pub invariant-loop-q : goal.invariant-loop-q

@@ -4,8 +4,8 @@ use Rattle.std.proofs.lemmas.Bool.{false≢true}
 use Rattle.std.proofs.lemmas.Option.{slice_get_within}
 use Rattle.zac_arch.specs.declared.place.Point.{Point}
 use Rattle.zair_form.specs.declared.step.PairOf.{PairOf}
-use Rattle.zair_machine.specs.State.{RestsLit}
-use Rattle.zair_machine.proofs.Picking.{none_below_start, none_below_more, first_of_all, none_of_all}
+use Rattle.zair_state.specs.State.{RestsLit}
+use Rattle.zair_state.proofs.Picking.{none_below_start, none_below_more, first_of_all, none_of_all}
 use Rattle.zair_machine.proofs.machine.Machine.least_lit_alone.Goals as goal
 
 pub loop-q-init : goal.loop-q-init

@@ -2,8 +2,8 @@ use Rattle.std.proofs.Common.{◌≡◌, ◌⊎◌, ℕ}
 use Rattle.std.specs.List.{Any}
 use Rattle.zac_arch.specs.declared.place.Point.{Point}
 use Rattle.zair_form.specs.declared.step.PairOf.{PairOf}
-use Rattle.zair_machine.specs.State.{RestsLit}
-use Rattle.zair_machine.proofs.Picking.{NoneBelow}
+use Rattle.zair_state.specs.State.{RestsLit}
+use Rattle.zair_state.proofs.Picking.{NoneBelow}
 use Rattle.zair_machine.proofs.machine.Machine.least_lit_alone.Given as goal
 
 abbrev pub invariant-loop-q : goal.invariant-loop-q

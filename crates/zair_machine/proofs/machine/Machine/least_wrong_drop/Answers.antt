@@ -1,8 +1,8 @@
 use Rattle.std.proofs.Common.{◌≡◌}
 use Rattle.std.specs.List.{Any}
 use Rattle.zair_form.specs.declared.step.Dropped.{Dropped}
-use Rattle.zair_machine.specs.Legal.{Drops}
-use Rattle.zair_machine.proofs.Minima.{not_same, least_start, least_more, least_whole}
+use Rattle.zair_state.specs.Legal.{Drops}
+use Rattle.zair_state.proofs.Minima.{not_same, least_start, least_more, least_whole}
 use Rattle.zair_machine.proofs.Dropping.{wrong_with}
 use Rattle.zair_machine.proofs.machine.Machine.least_wrong_drop.Goals as goal
 

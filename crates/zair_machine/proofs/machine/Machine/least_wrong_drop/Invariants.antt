@@ -1,8 +1,8 @@
 use Rattle.std.proofs.Common.{take}
 use Rattle.zair_form.specs.declared.step.Dropped.{Dropped}
-use Rattle.zair_machine.specs.Legal.{Drops}
-use Rattle.zair_machine.specs.Least.{IsLeastOf}
-use Rattle.zair_machine.proofs.Minima.{KeyOf}
+use Rattle.zair_state.specs.Legal.{Drops}
+use Rattle.zair_state.specs.Least.{IsLeastOf}
+use Rattle.zair_state.proofs.Minima.{KeyOf}
 use Rattle.zair_machine.proofs.machine.Machine.least_wrong_drop.Given as goal
 
 abbrev pub invariant-loop-d : goal.invariant-loop-d

@@ -1,7 +1,7 @@
 use Rattle.std.proofs.Common.{◌≤◌, ℕ, length, sym, ◌∙◌, arith}
 use Rattle.std.proofs.lemmas.Bool.{false≢true}
-use Rattle.zair_machine.proofs.Picking.{none_below_more, first_of_all, none_of_all}
-use Rattle.zair_machine.proofs.Pairs.{IsWrongPair, wrong_within}
+use Rattle.zair_state.proofs.Picking.{none_below_more, first_of_all, none_of_all}
+use Rattle.zair_state.proofs.Pairs.{IsWrongPair, wrong_within}
 use Rattle.zair_machine.proofs.machine.Machine.least_wrong_partner.Goals as goal
 
 pub loop-r-init : goal.loop-r-init

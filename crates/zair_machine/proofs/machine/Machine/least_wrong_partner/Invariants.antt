@@ -1,6 +1,6 @@
 use Rattle.std.proofs.Common.{◌≤◌, ℕ}
-use Rattle.zair_machine.proofs.Picking.{NoneBelow}
-use Rattle.zair_machine.proofs.Pairs.{IsWrongPair}
+use Rattle.zair_state.proofs.Picking.{NoneBelow}
+use Rattle.zair_state.proofs.Pairs.{IsWrongPair}
 use Rattle.zair_machine.proofs.machine.Machine.least_wrong_partner.Given as goal
 
 abbrev pub invariant-loop-r : goal.invariant-loop-r

@@ -1,9 +1,9 @@
 use Rattle.std.proofs.Common.{◌≡◌, ◌≢◌, ◌⊎◌, ℕ, Some, slice_get}
 use Rattle.std.proofs.lemmas.Option.{slice_get-get_or}
 use Rattle.zair_form.specs.declared.step.Caught.{Caught}
-use Rattle.zair_machine.specs.Faults.{AreSameCatch}
-use Rattle.zair_machine.specs.Legal.{Picks}
-use Rattle.zair_machine.proofs.Picking.{least_at_start, least_at_more, least_at_whole}
+use Rattle.zair_state.specs.Faults.{AreSameCatch}
+use Rattle.zair_state.specs.Legal.{Picks}
+use Rattle.zair_state.proofs.Picking.{least_at_start, least_at_more, least_at_whole}
 use Rattle.zair_machine.proofs.machine.Machine.least_wrong_pick.Goals as goal
 
 pub loop-k-init : goal.loop-k-init

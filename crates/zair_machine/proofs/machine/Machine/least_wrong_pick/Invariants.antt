@@ -1,9 +1,9 @@
 use Rattle.std.proofs.Common.{◌≡◌, ◌≢◌, ◌⊎◌, ℕ, Some, slice_get}
 use Rattle.zair_form.specs.declared.step.Caught.{Caught}
-use Rattle.zair_machine.specs.Faults.{AreSameCatch}
-use Rattle.zair_machine.specs.Legal.{Picks}
-use Rattle.zair_machine.specs.Least.{IsLeastOf}
-use Rattle.zair_machine.proofs.Picking.{KeyAt}
+use Rattle.zair_state.specs.Faults.{AreSameCatch}
+use Rattle.zair_state.specs.Legal.{Picks}
+use Rattle.zair_state.specs.Least.{IsLeastOf}
+use Rattle.zair_state.proofs.Picking.{KeyAt}
 use Rattle.zair_machine.proofs.machine.Machine.least_wrong_pick.Given as goal
 
 abbrev pub invariant-loop-k : goal.invariant-loop-k

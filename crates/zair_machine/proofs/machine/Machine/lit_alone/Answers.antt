@@ -1,4 +1,4 @@
-use Rattle.zair_machine.proofs.Atoms.{alone_pulse}
+use Rattle.zair_state.proofs.Atoms.{alone_pulse}
 use Rattle.zair_machine.proofs.machine.Machine.lit_alone.Goals as goal
 
 pub returns-in-Pulse : goal.returns-in-Pulse

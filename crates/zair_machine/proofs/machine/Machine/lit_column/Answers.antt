@@ -1,8 +1,8 @@
 use Rattle.std.proofs.Common.{◌≡◌}
 use Rattle.std.specs.List.{Contains}
 use Rattle.zair_form.specs.declared.step.Beam.{Beam}
-use Rattle.zair_machine.specs.State.{crossing}
-use Rattle.zair_machine.proofs.Minima.{least_start, least_more, least_whole}
+use Rattle.zair_state.specs.State.{crossing}
+use Rattle.zair_state.proofs.Minima.{least_start, least_more, least_whole}
 use Rattle.zac_arch.specs.Architecture.{IsLit}
 use Rattle.zair_machine.proofs.machine.Machine.lit_column.Goals as goal
 

@@ -1,8 +1,8 @@
 use Rattle.std.proofs.Common.{take}
 use Rattle.zair_form.specs.declared.step.Beam.{Beam}
-use Rattle.zair_machine.specs.Least.{IsLeastOf}
-use Rattle.zair_machine.specs.State.{crossing}
-use Rattle.zair_machine.proofs.Minima.{KeyOf}
+use Rattle.zair_state.specs.Least.{IsLeastOf}
+use Rattle.zair_state.specs.State.{crossing}
+use Rattle.zair_state.proofs.Minima.{KeyOf}
 use Rattle.zac_arch.specs.Architecture.{IsLit}
 use Rattle.zair_machine.proofs.machine.Machine.lit_column.Given as goal
 

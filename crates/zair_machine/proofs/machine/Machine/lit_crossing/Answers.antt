@@ -1,6 +1,6 @@
 use Rattle.std.proofs.Common.{arith}
-use Rattle.zair_machine.proofs.Picking.{none_below_more}
-use Rattle.zair_machine.proofs.Resting.{SomeLit, none_lit, first_lit, never_lit}
+use Rattle.zair_state.proofs.Picking.{none_below_more}
+use Rattle.zair_state.proofs.Resting.{SomeLit, none_lit, first_lit, never_lit}
 use Rattle.zair_machine.proofs.machine.Machine.lit_crossing.Goals as goal
 
 pub returns-in-Some : goal.returns-in-Some

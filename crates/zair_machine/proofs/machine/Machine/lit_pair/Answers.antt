@@ -1,8 +1,8 @@
 use Rattle.std.proofs.Common.{◌≡◌, ◌≤◌, ℕ, get_or}
 use Rattle.std.specs.List.{Contains}
 use Rattle.zair_form.specs.declared.step.Beam.{Beam}
-use Rattle.zair_machine.specs.State.{crossing}
-use Rattle.zair_machine.proofs.Minima.{at_some, at_none}
+use Rattle.zair_state.specs.State.{crossing}
+use Rattle.zair_state.proofs.Minima.{at_some, at_none}
 use Rattle.zac_arch.specs.Architecture.{IsLit}
 use Rattle.zair_machine.proofs.Touching.{none_touch, no_more_touch, touches_first, never_touches}
 use Rattle.zair_machine.proofs.machine.Machine.lit_pair.Goals as goal

@@ -1,6 +1,6 @@
 use Rattle.std.proofs.Common.{take}
 use Rattle.zair_form.specs.declared.step.Beam.{Beam}
-use Rattle.zair_machine.specs.State.{crossing}
+use Rattle.zair_state.specs.State.{crossing}
 use Rattle.zac_arch.specs.Architecture.{IsLit}
 use Rattle.zair_machine.proofs.Touching.{NoTouch}
 use Rattle.zair_machine.proofs.machine.Machine.lit_pair.Given as goal

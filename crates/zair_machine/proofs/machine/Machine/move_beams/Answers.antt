@@ -1,10 +1,10 @@
 use Rattle.std.proofs.Common.{◌≤◌, [], refl, sym, subst}
 use Rattle.zac_arch.specs.declared.card.Figures.{Figures}
 use Rattle.zair_form.specs.declared.step.Step.TheVariants.{Move}
-use Rattle.zair_machine.specs.State.{State}
+use Rattle.zair_state.specs.State.{State}
 use Rattle.zair_machine.specs.Machine.{Running}
-use Rattle.zair_machine.specs.Legal.{IsLegal}
-use Rattle.zair_machine.specs.Result.{after, with_beams}
+use Rattle.zair_state.specs.Legal.{IsLegal}
+use Rattle.zair_state.specs.Result.{after, with_beams}
 use Rattle.zair_machine.proofs.Applying.{set_same, kept_so, few_rows_moved, few_columns_moved}
 use Rattle.zair_machine.proofs.machine.Machine.move_beams.Goals as goal
 

@@ -1,5 +1,5 @@
 use Rattle.std.proofs.Common.{◌≡◌}
-use Rattle.zair_machine.specs.Faults.{along}
+use Rattle.zair_state.specs.Faults.{along}
 use Rattle.zair_machine.proofs.BeamFaults.{inactive_activate, inactive_move, inactive_deactivate}
 use Rattle.zair_machine.proofs.machine.Machine.not_active_along.Goals as goal
 

@@ -1,4 +1,4 @@
-use Rattle.zair_machine.proofs.Atoms.{known_read, known_gate, rest_gate, rest_reads}
+use Rattle.zair_state.proofs.Atoms.{known_read, known_gate, rest_gate, rest_reads}
 use Rattle.zair_machine.proofs.machine.Machine.not_at_rest.Goals as goal
 
 pub is_held-requires : goal.is_held-requires

@@ -1,5 +1,5 @@
-use Rattle.zair_machine.specs.declared.fault.Axis.TheVariants.{Row, Column}
-use Rattle.zair_machine.specs.Faults.{IsOutOfOrder}
+use Rattle.zair_state.specs.declared.fault.Axis.TheVariants.{Row, Column}
+use Rattle.zair_state.specs.Faults.{IsOutOfOrder}
 use Rattle.zair_machine.proofs.BeamFaults.{order_told, first_beam_told}
 use Rattle.zair_machine.proofs.machine.Machine.out_of_order.Goals as goal
 

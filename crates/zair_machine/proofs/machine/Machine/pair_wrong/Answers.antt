@@ -1,4 +1,4 @@
-use Rattle.zair_machine.proofs.Atoms.{known_paired, pairs_pulse}
+use Rattle.zair_state.proofs.Atoms.{known_paired, pairs_pulse}
 use Rattle.zair_machine.proofs.machine.Machine.pair_wrong.Goals as goal
 
 pub wrong_pair-requires : goal.wrong_pair-requires

@@ -1,4 +1,4 @@
-use Rattle.zair_machine.specs.Faults.{IsPastLimit}
+use Rattle.zair_state.specs.Faults.{IsPastLimit}
 use Rattle.zair_machine.proofs.BeamFaults.{first_beam_told}
 use Rattle.zair_machine.proofs.machine.Machine.past_limit.Goals as goal
 

@@ -1,5 +1,5 @@
 use Rattle.std.proofs.Common.{◌≡◌}
-use Rattle.zair_machine.specs.Faults.{along}
+use Rattle.zair_state.specs.Faults.{along}
 use Rattle.zair_machine.proofs.BeamFaults.{limit_activate, limit_move}
 use Rattle.zair_machine.proofs.machine.Machine.past_limit_along.Goals as goal
 

@@ -1,9 +1,9 @@
 use Rattle.std.specs.List.{Contains}
 use Rattle.std.proofs.lemmas.Bool.{false≢true}
 use Rattle.zac_arch.specs.declared.place.Point.{Point}
-use Rattle.zair_machine.specs.State.{HasId}
-use Rattle.zair_machine.proofs.Minima.{at_some, at_none}
-use Rattle.zair_machine.proofs.Picking.{picks_told, picks_nowhere}
+use Rattle.zair_state.specs.State.{HasId}
+use Rattle.zair_state.proofs.Minima.{at_some, at_none}
+use Rattle.zair_state.proofs.Picking.{picks_told, picks_nowhere}
 use Rattle.zair_machine.proofs.machine.Machine.picks.Goals as goal
 
 pub returns-in-Some : goal.returns-in-Some

@@ -1,8 +1,8 @@
 use Rattle.std.proofs.Common.{subst}
 use Rattle.std.proofs.lemmas.Bool.{false≢true}
-use Rattle.zair_machine.specs.declared.place.Place.{Place}
-use Rattle.zair_machine.specs.State.{IsAt}
-use Rattle.zair_machine.proofs.Picking.{rests_told, held_rests_not}
+use Rattle.zair_state.specs.declared.place.Place.{Place}
+use Rattle.zair_state.specs.State.{IsAt}
+use Rattle.zair_state.proofs.Picking.{rests_told, held_rests_not}
 use Rattle.zair_machine.proofs.machine.Machine.rests_at.Goals as goal
 
 pub returns-in-Trap : goal.returns-in-Trap

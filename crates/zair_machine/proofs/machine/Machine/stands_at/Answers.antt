@@ -3,8 +3,8 @@ use Rattle.std.proofs.lemmas.Bool.{false≢true}
 use Rattle.zac_arch.specs.Architecture.{Architecture, StandsAt}
 use Rattle.zac_arch.specs.declared.place.Point.{Point}
 use Rattle.zac_arch.specs.declared.place.TrapId.{TrapId}
-use Rattle.zair_machine.proofs.Minima.{at_some, at_none}
-use Rattle.zair_machine.proofs.Picking.{stands_told}
+use Rattle.zair_state.proofs.Minima.{at_some, at_none}
+use Rattle.zair_state.proofs.Picking.{stands_told}
 use Rattle.zair_machine.proofs.machine.Machine.stands_at.Goals as goal
 
 pub returns-in-Some : goal.returns-in-Some

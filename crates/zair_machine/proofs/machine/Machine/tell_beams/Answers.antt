@@ -1,5 +1,5 @@
 use Rattle.std.proofs.Common.{subst}
-use Rattle.zair_machine.specs.FirstFault.{Tells}
+use Rattle.zair_state.specs.FirstFault.{Tells}
 use Rattle.zair_machine.proofs.Told.{met_more, met_at_first, end_told}
 use Rattle.zair_machine.proofs.machine.Machine.tell_beams.Goals as goal
 

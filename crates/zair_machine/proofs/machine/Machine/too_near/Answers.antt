@@ -1,8 +1,8 @@
 use Rattle.std.proofs.Common.{◌+◌, ◌<◌, ℕ, subst}
 use Rattle.zair_form.specs.declared.step.Beam.{Beam}
-use Rattle.zair_machine.specs.declared.fault.Axis.TheVariants.{Row, Column}
-use Rattle.zair_machine.specs.Faults.{AreNeighbours, IsTooNear}
-use Rattle.zair_machine.specs.Least.{IsLeastOf}
+use Rattle.zair_state.specs.declared.fault.Axis.TheVariants.{Row, Column}
+use Rattle.zair_state.specs.Faults.{AreNeighbours, IsTooNear}
+use Rattle.zair_state.specs.Least.{IsLeastOf}
 use Rattle.zair_machine.proofs.BeamFaults.{gap_told, first_beam_told}
 use Rattle.zair_machine.proofs.machine.Machine.too_near.Goals as goal
 

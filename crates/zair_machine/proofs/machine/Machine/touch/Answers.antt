@@ -1,10 +1,10 @@
 use Rattle.std.proofs.Common.{◌≡◌, ◌≤◌, ℕ, Some, None, List, get_or, subst}
 use Rattle.std.specs.List.{Contains}
 use Rattle.zair_form.specs.declared.step.Beam.{Beam}
-use Rattle.zair_machine.specs.Faults.{beams_after, TouchesAt}
-use Rattle.zair_machine.specs.Least.{IsLeastPairOf}
-use Rattle.zair_machine.specs.declared.fault.Axis.TheVariants.{Column}
-use Rattle.zair_machine.proofs.Minima.{at_some, at_none}
+use Rattle.zair_state.specs.Faults.{beams_after, TouchesAt}
+use Rattle.zair_state.specs.Least.{IsLeastPairOf}
+use Rattle.zair_state.specs.declared.fault.Axis.TheVariants.{Column}
+use Rattle.zair_state.proofs.Minima.{at_some, at_none}
 use Rattle.zair_machine.proofs.Touching.{Pair, none_touch, no_more_touch, touches_first, never_touches}
 use Rattle.zair_machine.proofs.machine.Machine.touch.Goals as goal
 

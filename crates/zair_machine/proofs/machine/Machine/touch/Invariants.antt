@@ -1,5 +1,5 @@
 use Rattle.std.proofs.Common.{take}
-use Rattle.zair_machine.specs.Faults.{TouchesAt}
+use Rattle.zair_state.specs.Faults.{TouchesAt}
 use Rattle.zair_machine.proofs.Touching.{NoTouch}
 use Rattle.zair_machine.proofs.machine.Machine.touch.Given as goal
 

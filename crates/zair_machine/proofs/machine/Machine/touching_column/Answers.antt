@@ -1,8 +1,8 @@
 use Rattle.std.proofs.Common.{◌≡◌}
 use Rattle.std.specs.List.{Contains}
 use Rattle.zair_form.specs.declared.step.Beam.{Beam}
-use Rattle.zair_machine.specs.Faults.{TouchesAt}
-use Rattle.zair_machine.proofs.Minima.{least_start, least_more, least_whole}
+use Rattle.zair_state.specs.Faults.{TouchesAt}
+use Rattle.zair_state.proofs.Minima.{least_start, least_more, least_whole}
 use Rattle.zair_machine.proofs.machine.Machine.touching_column.Goals as goal
 
 pub loop-column-init : goal.loop-column-init

@@ -1,8 +1,8 @@
 use Rattle.std.proofs.Common.{take}
 use Rattle.zair_form.specs.declared.step.Beam.{Beam}
-use Rattle.zair_machine.specs.Faults.{TouchesAt}
-use Rattle.zair_machine.specs.Least.{IsLeastOf}
-use Rattle.zair_machine.proofs.Minima.{KeyOf}
+use Rattle.zair_state.specs.Faults.{TouchesAt}
+use Rattle.zair_state.specs.Least.{IsLeastOf}
+use Rattle.zair_state.proofs.Minima.{KeyOf}
 use Rattle.zair_machine.proofs.machine.Machine.touching_column.Given as goal
 
 abbrev pub invariant-loop-column : goal.invariant-loop-column

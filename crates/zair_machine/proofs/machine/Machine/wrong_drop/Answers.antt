@@ -1,4 +1,4 @@
-use Rattle.zair_machine.proofs.Atoms.{drop_deactivate, known_dropped}
+use Rattle.zair_state.proofs.Atoms.{drop_deactivate, known_dropped}
 use Rattle.zair_machine.proofs.machine.Machine.wrong_drop.Goals as goal
 
 pub least_wrong_drop-wrong-requires : goal.least_wrong_drop-wrong-requires

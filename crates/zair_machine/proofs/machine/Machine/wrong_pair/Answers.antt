@@ -1,8 +1,8 @@
 use Rattle.std.proofs.Common.{◌≤◌, ℕ, length, arith}
-use Rattle.zair_machine.proofs.Atoms.{first_pair_here, no_pair_here}
-use Rattle.zair_machine.proofs.Pairs.{IsWrongPair, wrong_within}
-use Rattle.zair_machine.proofs.Picking.{none_below_start, none_below_more}
-use Rattle.zair_machine.proofs.Minima.{at_some, at_none}
+use Rattle.zair_state.proofs.Atoms.{first_pair_here, no_pair_here}
+use Rattle.zair_state.proofs.Pairs.{IsWrongPair, wrong_within}
+use Rattle.zair_state.proofs.Picking.{none_below_start, none_below_more}
+use Rattle.zair_state.proofs.Minima.{at_some, at_none}
 use Rattle.zair_machine.proofs.machine.Machine.wrong_pair.Goals as goal
 
 pub loop-q-init : goal.loop-q-init

@@ -1,4 +1,4 @@
-use Rattle.zair_machine.proofs.Atoms.{pick_activate, known_caught}
+use Rattle.zair_state.proofs.Atoms.{pick_activate, known_caught}
 use Rattle.zair_machine.proofs.machine.Machine.wrong_pick.Goals as goal
 
 pub least_wrong_pick-requires-clause-known : goal.least_wrong_pick-requires-clause-known

@@ -1,5 +1,0 @@
-use Rattle.zair_machine.proofs.Refused.{none_caught}
-use Rattle.zair_machine.proofs.examples.catching_none_is_refused.Goals as goal
-
-pub returns : goal.returns
-returns c = none_caught

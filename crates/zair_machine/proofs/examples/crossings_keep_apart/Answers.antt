@@ -1,5 +1,0 @@
-use Rattle.zair_machine.proofs.Beside.{beside, near}
-use Rattle.zair_machine.proofs.examples.crossings_keep_apart.Goals as goal
-
-pub returns : goal.returns
-returns c = record { beside = beside; near = near }

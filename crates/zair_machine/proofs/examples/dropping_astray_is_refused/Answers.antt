@@ -1,5 +1,0 @@
-use Rattle.zair_machine.proofs.Refused.{astray}
-use Rattle.zair_machine.proofs.examples.dropping_astray_is_refused.Goals as goal
-
-pub returns : goal.returns
-returns c h = astray h.1.1.1.0

@@ -1,5 +1,0 @@
-use Rattle.zair_machine.proofs.OneFault.{one_first}
-use Rattle.zair_machine.proofs.laws.first_faults_are_one.Goals as goal
-
-pub returns : goal.returns
-returns c = one_first

@@ -1,5 +1,0 @@
-use Rattle.zair_machine.proofs.Soundness.{opening_sound}
-use Rattle.zair_machine.proofs.laws.openings_are_sound.Goals as goal
-
-pub returns : goal.returns
-returns c = opening_sound

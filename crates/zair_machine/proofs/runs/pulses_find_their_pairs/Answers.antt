@@ -1,5 +1,0 @@
-use Rattle.zair_machine.proofs.ChainPerforms.{each_pulse_finds}
-use Rattle.zair_machine.proofs.runs.pulses_find_their_pairs.Goals as goal
-
-pub returns : goal.returns
-returns c = each_pulse_finds
