@@ -1,0 +1,2 @@
+pub mod SharingFacts
+pub mod KeepingFacts
