@@ -14,7 +14,7 @@ split_at f (y ∷ ys) (suc i) x h e =
     let more : suc i + 1 ≡ suc (i + 1) = omega arith in
     rw more (ap (λ ls. f y ∷ ls) (split_at f ys i x (omega arith) e))
 
-joined_more : (before : List (List ℕ)) (bytes : List ℕ) → joined (before ++ bytes ∷ []) ≡ joined before ++ bytes
+pub joined_more : (before : List (List ℕ)) (bytes : List ℕ) → joined (before ++ bytes ∷ []) ≡ joined before ++ bytes
 joined_more before bytes = flat_map-append (λ (b : List ℕ). b) before (bytes ∷ []) ∙ ap (λ s. joined before ++ s) (append-nil bytes)
 
 take_one_more : {X : Type 0} (f : X → List ℕ) (xs : List X) (i : ℕ) (x : X) → i < length xs → x ≡ get_or xs i x → map f (take (i + 1) xs) ≡ map f (take i xs) ++ f x ∷ []
@@ -75,3 +75,17 @@ no_line laws first lines sink = record {
   is_front = refl;
   grown = laws.nothing sink;
 }
+
+-- some of the lines went out, where one more line is to come behind them
+pub not_the_last : (lines : List (List ℕ)) (last : List ℕ) (old new : Option (List ℕ)) → AppendsLines old new lines → AppendsLines old new (lines ++ last ∷ [])
+not_the_last lines last old new some = record {
+  whole = some.whole;
+  next = some.next;
+  rest = some.rest ++ last ∷ [];
+  is_front = sym (append_assoc some.whole (some.next ∷ some.rest) (last ∷ [])) ∙ ap (λ ls. ls ++ last ∷ []) some.is_front;
+  grown = some.grown;
+}
+
+-- all of them but the last one
+pub all_but_last : (lines : List (List ℕ)) (last : List ℕ) (old new : Option (List ℕ)) → Appends old new (joined lines) → AppendsLines old new (lines ++ last ∷ [])
+all_but_last lines last old new grown = record { whole = lines; next = last; rest = []; is_front = refl; grown = grown }

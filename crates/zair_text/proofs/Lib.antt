@@ -7,3 +7,4 @@ pub mod Steps
 pub mod OneText
 pub mod SmallNumbers
 pub mod Writable
+pub mod Counting

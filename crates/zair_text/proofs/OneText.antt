@@ -1,5 +1,5 @@
 -- Different values have different compact texts, and different programs different texts.
-use Rattle.std.proofs.Common.{◌≡◌, ℕ, suc, ◌≤◌, List, [], ◌∷◌, ◌++◌, map, Option, Some, None, Contains, refl, sym, ap, ap₂, ◌∙◌, arith, append_assoc}
+use Rattle.std.proofs.Common.{◌≡◌, ℕ, suc, ◌≤◌, ◌≢◌, List, [], ◌∷◌, ◌++◌, map, Option, Some, None, Contains, get_or, refl, sym, ap, ap₂, ◌∙◌, arith, append_assoc}
 use Rattle.json.specs.Json as json
 use Rattle.json.specs.Tree as tree
 use Rattle.json.proofs.Printed.Decimals.{IsNumber-decimal}
@@ -9,10 +9,15 @@ use Rattle.serde_json.specs.Read.{number_of, max_depth}
 use Rattle.serde_json.specs.Written.{number_text, compact_text, outline, items_outline, members_outline}
 use Rattle.serde_json.proofs.Numbers.{number_of-decimal}
 use Rattle.serde_json.proofs.Texts.{print-outline}
+use Rattle.serde_json.proofs.OnLiterals.{serde_json_on_literals}
+use Rattle.zair_form.specs.declared.program.Act.{Act}
+use Rattle.zair_form.specs.declared.program.Act.TheVariants.{Init, Gates, Rydberg, Job, Readout}
 use Rattle.zair_form.specs.declared.program.Instr.{Instr}
-use Rattle.zair_text.specs.Lines.{line, instr_line, joined, program_text}
+use Rattle.zair_text.specs.Lines.{line, instr_line, totals_line, joined, program_text}
 use Rattle.zair_text.specs.Ranges.{IsSmallNumber, HasSmallNumbers, ItemsHaveSmallNumbers, MembersHaveSmallNumbers, IsWritable, AreWritable}
-use Rattle.zair_text.specs.Values.{instr_value, header_value}
+use Rattle.zair_text.specs.Tally.{totals_of}
+use Rattle.zair_text.specs.Values.{act_value, instr_value, header_value, end_value}
+use Rattle.zair_text.specs.declared.counts.Totals.{Totals}
 use Rattle.zair_text.proofs.Distinct.{instr_same}
 use Rattle.zair_text.proofs.OneLine.{compact_text_one_line}
 use Rattle.zair_text.proofs.Shape.{instr_shallow}
@@ -117,10 +122,6 @@ compact_text_same d e small small' shallow shallow' same =
 later : (x y : ℕ) (s : List ℕ) → Contains s y → Contains (x ∷ s) y
 later x y s (k, below, is) = (suc k, omega (arith, below), is)
 
-none_left : (s u : List ℕ) → s ++ 10 ∷ u ≡ [] → ⊥
-none_left [] u e = cc
-none_left (x ∷ s) u e = cc
-
 -- what stands before the first line feed, and behind it
 fronts_same : (s t u v : List ℕ) → ¬ Contains s 10 → ¬ Contains t 10 → s ++ 10 ∷ u ≡ t ++ 10 ∷ v → (s ≡ t) × (u ≡ v)
 fronts_same [] [] u v none none' e = (refl, cc)
@@ -143,19 +144,41 @@ writable_same : (i j : Instr) → IsWritable i → IsWritable j → compact_text
 writable_same i j h k same =
     instr_same i j h.own k.own (compact_text_same (instr_value i) (instr_value j) h.small k.small (instr_shallow i) (instr_shallow j) same)
 
--- no line is empty
-some_line : (d : Data) (u : List ℕ) → line d ++ u ≡ [] → ⊥
-some_line d u e = none_left (compact_text d) u (sym (append_assoc (compact_text d) (10 ∷ []) u) ∙ e)
+-- the third byte of a text, behind the brace and the quotation mark of its first key
+third : List ℕ → ℕ
+third s = get_or s 2 0
 
-lines_same : (is js : List Instr) → AreWritable is → AreWritable js → joined (map instr_line is) ≡ joined (map instr_line js) → is ≡ js
-lines_same [] [] h k e = refl
-lines_same [] (j ∷ js) h k e = absurd (some_line (instr_value j) _ (sym e))
-lines_same (i ∷ is) [] h k e = absurd (some_line (instr_value i) _ e)
-lines_same (i ∷ is) (j ∷ js) h k e =
-    let both = line_same (instr_value i) (instr_value j) (joined (map instr_line is)) (joined (map instr_line js)) e in
-    ap₂ (λ a l. a ∷ l) (writable_same i j h.0 k.0 both.0) (lines_same is js h.1 k.1 both.1)
+begins_act : (begin end : ℕ) (a : Act) → third (compact_text (act_value begin end a)) ≢ 103
+unfolding serde_json_on_literals third
+begins_act begin end (Init homes) = λ e. let f : ◌≡◌ {A = ℕ} 98 103 = e in absurd (omega (arith, f))
+begins_act begin end (Gates ones) = λ e. let f : ◌≡◌ {A = ℕ} 98 103 = e in absurd (omega (arith, f))
+begins_act begin end (Rydberg pairs) = λ e. let f : ◌≡◌ {A = ℕ} 98 103 = e in absurd (omega (arith, f))
+begins_act begin end (Job aod steps) = λ e. let f : ◌≡◌ {A = ℕ} 97 103 = e in absurd (omega (arith, f))
+begins_act begin end (Readout reads) = λ e. let f : ◌≡◌ {A = ℕ} 98 103 = e in absurd (omega (arith, f))
+
+begins_end : (t : Totals) → third (compact_text (end_value t)) ≡ 103
+unfolding serde_json_on_literals third
+begins_end t = refl
+
+-- the line of a tally is that of no instruction
+apart : (t : Totals) (i : Instr) → compact_text (end_value t) ≡ compact_text (instr_value i) → ⊥
+apart t i e = begins_act i.begin i.end i.act (ap third (sym e) ∙ begins_end t)
+
+-- lines of instructions, with the line of a tally behind them
+ended : Totals → List Instr → List ℕ
+ended t is = joined (map instr_line is ++ totals_line t ∷ [])
+
+lines_same : (t u : Totals) (is js : List Instr) → AreWritable is → AreWritable js → ended t is ≡ ended u js → is ≡ js
+unfolding ended
+lines_same t u [] [] h k e = refl
+lines_same t u [] (j ∷ js) h k e = absurd (apart t j (line_same (end_value t) (instr_value j) [] (ended u js) e).0)
+lines_same t u (i ∷ is) [] h k e = absurd (apart u i (line_same (end_value u) (instr_value i) [] (ended t is) (sym e)).0)
+lines_same t u (i ∷ is) (j ∷ js) h k e =
+    let both = line_same (instr_value i) (instr_value j) (ended t is) (ended u js) e in
+    ap₂ (λ a l. a ∷ l) (writable_same i j h.0 k.0 both.0) (lines_same t u is js h.1 k.1 both.1)
 
 -- programs with one text are one program
 pub text_same : (is js : List Instr) → AreWritable is → AreWritable js → program_text is ≡ program_text js → is ≡ js
+unfolding ended
 text_same is js h k e =
-    lines_same is js h k (line_same header_value header_value (joined (map instr_line is)) (joined (map instr_line js)) e).1
+    lines_same (totals_of is) (totals_of js) is js h k (line_same header_value header_value (ended (totals_of is) is) (ended (totals_of js) js) e).1

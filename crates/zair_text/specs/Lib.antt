@@ -1,4 +1,5 @@
 pub mod Values
+pub mod Tally
 pub mod Lines
 pub mod Writing
 pub mod Ranges

@@ -5,7 +5,9 @@ use Rattle.serde_json.specs.Data.{Data}
 use Rattle.serde_json.specs.Read.{read}
 use Rattle.serde_json.specs.Written.{compact_text}
 use Rattle.zair_form.specs.declared.program.Instr.{Instr}
-use Rattle.zair_text.specs.Values.{instr_value, header_value}
+use Rattle.zair_text.specs.Tally.{totals_of}
+use Rattle.zair_text.specs.Values.{instr_value, header_value, end_value}
+use Rattle.zair_text.specs.declared.counts.Totals.{Totals}
 
 -- A value's compact text, and a line feed.
 abbrev pub line : Data → List ℕ
@@ -15,9 +17,17 @@ line value = compact_text value ++ 10 ∷ []
 abbrev pub instr_line : Instr → List ℕ
 instr_line i = line (instr_value i)
 
--- The line of the header, and then a line for each instruction.
+-- The line of a tally.
+abbrev pub totals_line : Totals → List ℕ
+totals_line totals = line (end_value totals)
+
+-- A line for each instruction, and then that of the tally.
+abbrev pub later_lines : List Instr → List (List ℕ)
+later_lines instrs = map instr_line instrs ++ totals_line (totals_of instrs) ∷ []
+
+-- The line of the header, a line for each instruction, and that of the tally.
 abbrev pub program_lines : List Instr → List (List ℕ)
-program_lines instrs = line header_value ∷ map instr_line instrs
+program_lines instrs = line header_value ∷ later_lines instrs
 
 -- The bytes of the lines, one after another.
 abbrev pub joined : List (List ℕ) → List ℕ

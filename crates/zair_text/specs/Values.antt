@@ -15,6 +15,7 @@ use Rattle.zair_form.specs.declared.step.Step.TheVariants as step
 use Rattle.zair_form.specs.declared.program.Act.{Act}
 use Rattle.zair_form.specs.declared.program.Act.TheVariants.{Init, Gates, Rydberg, Job, Readout}
 use Rattle.zair_form.specs.declared.program.Instr.{Instr}
+use Rattle.zair_text.specs.declared.counts.Totals.{Totals}
 
 -- A number as a JSON number.
 abbrev pub number_value : ℕ → Data
@@ -133,3 +134,18 @@ header_value = object
     (member (codes "type") (string (codes "zair"))
     (member (codes "version") (number_value 1)
     no_members))
+
+-- The value of the last line: the totals of a tally, and "type" is "end".
+abbrev pub end_value : Totals → Data
+end_value t = object
+    (member (codes "gates") (number_value t.gates)
+    (member (codes "jobs") (number_value t.jobs)
+    (member (codes "kept") (number_value t.kept)
+    (member (codes "moved") (number_value t.moved)
+    (member (codes "pairs") (number_value t.pairs)
+    (member (codes "pulses") (number_value t.pulses)
+    (member (codes "qubits") (number_value t.qubits)
+    (member (codes "reads") (number_value t.reads)
+    (member (codes "time") (number_value t.time)
+    (member (codes "type") (string (codes "end"))
+    no_members))))))))))

@@ -1,15 +1,16 @@
 //! Lines of a text.
 
-ghost use Rattle.std.specs.Prelude.{◌≡◌, ◌≤◌, ◌++◌, ◌∷◌, [], codes, false, IfOk, IsTrue};
+ghost use Rattle.std.specs.Prelude.{◌≡◌, ◌≤◌, ◌++◌, ◌∷◌, [], codes, decimal, false, IfOk, IsTrue};
 ghost use Rattle.serde_json.specs.Data.{depth};
 ghost use Rattle.serde_json.specs.Read.{max_depth};
 ghost use Rattle.serde_json.specs.View.{view};
 ghost use Rattle.serde_json.specs.Written.{has_float};
 ghost use Rattle.zair_form.specs.Steps.{has_own_steps};
-ghost use Rattle.zair_text.specs.Values.{instr_value, header_value};
-ghost use Rattle.zair_text.specs.Lines.{line, instr_line, ReadsBack};
+ghost use Rattle.zair_text.specs.Values.{instr_value, header_value, end_value};
+ghost use Rattle.zair_text.specs.Lines.{line, instr_line, totals_line, ReadsBack};
 
-use crate::value::{ToJson, header_json};
+use crate::counts::Totals;
+use crate::value::{ToJson, end_json, header_json};
 use serde_json::Value;
 use std::alloc::Global;
 use zac_gates::{Bytes, List, Memory};
@@ -47,5 +48,20 @@ pub fn header_line(alloc: Global) -> Result<Bytes, Memory>
     ensures reads_back { IfOk result (ReadsBack header_value) }
 {
     let value = header_json(alloc)?;
+    line_from(alloc, &value)
+}
+
+/// The last line of a text: the totals of the program's tally in the byte order of their names, as the values of
+/// these keys, then `"type":"end"`, and a line feed.
+pub fn end_line(alloc: Global, totals: Totals) -> Result<Bytes, Memory>
+    ensures line { IfOk result (λ bytes. bytes ≡ totals_line totals) }
+    ensures bytes { IfOk result (λ bytes. bytes
+        ≡ (codes "{\"gates\":" ++ decimal totals.gates ++ codes ",\"jobs\":" ++ decimal totals.jobs ++ codes ",\"kept\":" ++ decimal totals.kept
+        ++ codes ",\"moved\":" ++ decimal totals.moved ++ codes ",\"pairs\":" ++ decimal totals.pairs ++ codes ",\"pulses\":" ++ decimal totals.pulses
+        ++ codes ",\"qubits\":" ++ decimal totals.qubits ++ codes ",\"reads\":" ++ decimal totals.reads ++ codes ",\"time\":" ++ decimal totals.time
+        ++ codes ",\"type\":\"end\"}") ++ 10 ∷ []) }
+    ensures reads_back { IfOk result (ReadsBack (end_value totals)) }
+{
+    let value = end_json(alloc, &totals)?;
     line_from(alloc, &value)
 }

@@ -4,8 +4,9 @@ ghost use Rattle.std.specs.Prelude.{◌≡◌, map, IfOk};
 ghost use Rattle.serde_json.specs.Data.{Data, string};
 ghost use Rattle.serde_json.specs.View.{view};
 ghost use Rattle.zair_form.specs.declared.program.Act.TheVariants.{Init, Gates, Rydberg, Job, Readout};
-ghost use Rattle.zair_text.specs.Values.{array_of, number_value, trap_value, beam_value, caught_value, dropped_value, pair_value, read_value, gate_value, activate_value, move_value, deactivate_value, step_value, act_value, instr_value, header_value};
+ghost use Rattle.zair_text.specs.Values.{array_of, number_value, trap_value, beam_value, caught_value, dropped_value, pair_value, read_value, gate_value, activate_value, move_value, deactivate_value, step_value, act_value, instr_value, header_value, end_value};
 
+use crate::counts::Totals;
 use serde_json::{Value, json};
 use std::alloc::{AllocError, Global};
 use zac_arch::TrapId;
@@ -253,4 +254,22 @@ pub(crate) fn header_json(alloc: Global) -> Result<Value, AllocError>
     ensures { IfOk result (λ v. view v ≡ header_value) }
 {
     json!(in alloc; {"type": "zair", "version": 1u8})
+}
+
+// The value of the last line.
+pub(crate) fn end_json(alloc: Global, totals: &Totals) -> Result<Value, AllocError>
+    ensures { IfOk result (λ v. view v ≡ end_value totals.now) }
+{
+    json!(in alloc; {
+        "gates": totals.gates,
+        "jobs": totals.jobs,
+        "kept": totals.kept,
+        "moved": totals.moved,
+        "pairs": totals.pairs,
+        "pulses": totals.pulses,
+        "qubits": totals.qubits,
+        "reads": totals.reads,
+        "time": totals.time,
+        "type": "end"
+    })
 }

@@ -5,9 +5,11 @@ ghost use Rattle.std.specs.List.{list_all};
 ghost use Rattle.zac_io.specs.Outside.{Appends, AppendsPrefix};
 ghost use Rattle.zair_form.specs.Steps.{has_own_steps};
 ghost use Rattle.zair_text.specs.Values.{header_value};
-ghost use Rattle.zair_text.specs.Lines.{line, instr_line, program_lines, joined, program_text};
+ghost use Rattle.zair_text.specs.Lines.{line, instr_line, totals_line, later_lines, program_lines, joined, program_text};
+ghost use Rattle.zair_text.specs.Tally.{totals_of};
 
-use crate::line::{header_line, line_of};
+use crate::counts::tally;
+use crate::line::{end_line, header_line, line_of};
 use std::alloc::Global;
 use thiserror::Error;
 use zac_gates::Memory;
@@ -50,7 +52,8 @@ impl From<Failed> for WriteFault {
 ghost use Rattle.zair_text.specs.Ranges.{AreWritable};
 ghost use Rattle.zair_text.specs.Writing.{AppendsLines, HasWriteCause};
 
-/// Writes the text of a program: its first line, and then a line for each instruction, by one `write` for each line.
+/// Writes the text of a program: its first line, a line for each instruction, and the line of its tally, by one
+/// `write` for each line.
 /// Each line is made, written and dropped before the next.
 ///
 /// `Failed` comes only where the sink's faults rose, and then a prefix of the text went out. After `Memory` whole
@@ -74,7 +77,7 @@ pub fn write_program<K: Sink>(
 {
     writes_add_up();
     write_header(alloc, sink)?;
-    write_instrs(alloc, program.instrs(), sink)
+    write_later(alloc, program, sink)
 }
 
 // Writes the first line.
@@ -109,4 +112,35 @@ fn write_instrs<K: Sink>(alloc: Global, instrs: &[Instr], sink: &mut K) -> Resul
         sink.write(line.as_slice())?;
     }
     Ok(())
+}
+
+// Writes the line of the tally.
+fn write_end<K: Sink>(alloc: Global, program: &Program, sink: &mut K) -> Result<(), WriteFault>
+    ensures ok { OnOk result
+        (Appends (K.written sink.old) (K.written sink.new) (totals_line (totals_of program.now))) }
+    ensures failed { IsErrOf result WriteFault.Failed
+        → AppendsPrefix (K.written sink.old) (K.written sink.new) (totals_line (totals_of program.now)) }
+    ensures memory { IsErrOf result WriteFault.Memory → sink.new ≡ sink.old }
+    ensures cause { HasWriteCause result (K.faults sink.old) (K.faults sink.new) }
+{
+    let totals = tally(alloc, program)?;
+    let end = end_line(alloc, totals)?;
+    sink.write(end.as_slice())?;
+    Ok(())
+}
+
+// Writes all lines but the first one.
+fn write_later<K: Sink>(alloc: Global, program: &Program, sink: &mut K) -> Result<(), WriteFault>
+    ensures ok { OnOk result
+        (Appends (K.written sink.old) (K.written sink.new) (joined (later_lines program.now))) }
+    ensures failed { IsErrOf result WriteFault.Failed
+        → AppendsPrefix (K.written sink.old) (K.written sink.new) (joined (later_lines program.now)) }
+    ensures memory { IsErrOf result WriteFault.Memory
+        → AppendsLines (K.written sink.old) (K.written sink.new) (later_lines program.now) }
+    ensures cause { HasWriteCause result (K.faults sink.old) (K.faults sink.new) }
+    ensures writable { OnOk result (AreWritable program.now) }
+{
+    writes_add_up();
+    write_instrs(alloc, program.instrs(), sink)?;
+    write_end(alloc, program, sink)
 }
