@@ -10,3 +10,4 @@ mod Roots
 pub mod Geometry
 pub mod Spacing
 mod Broken
+mod ZoneKinds

@@ -241,7 +241,7 @@ count_take-suc zs k z e =
     count_more zs k z lt ∙ ap (λ v. count (take k zs) + length (zone_traps v)) (get_or_from_slice_get zs k z z e)
 
 -- a trap's zone and its place there
-in_zone : (a : Architecture) (k place : ℕ) (z : Zone) → slice_get a.zones k ≡ Some z → place < length (zone_traps z) → IsInZone a (count (take k a.zones) + place) k
+pub in_zone : (a : Architecture) (k place : ℕ) (z : Zone) → slice_get a.zones k ≡ Some z → place < length (zone_traps z) → IsInZone a (count (take k a.zones) + place) k
 in_zone a k place z e lt =
     record { from = omega arith; below = omega (arith, count_take-suc a.zones k z e) }
 

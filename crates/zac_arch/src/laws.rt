@@ -47,11 +47,14 @@ pub fn laws_of_parking(card: &Card)
     let _rules = card.figures();
 }
 
-/// The laws of a zone: no trap is in two zones; the traps of a zone are a full grid, so that one stands in the column of any of
+/// The laws of a zone: no trap is in two zones; a zone with a storage trap has no others; the traps of a zone are a full grid, so that one stands in the column of any of
 /// them and the row of any other; and between two columns of a zone, as between two rows, there is room for a parked beam and
 /// the gap beside it.
 pub fn laws_of_zones(card: &Card)
     ensures one_zone { (t m n : ℕ) → IsInZone card.now t m → IsInZone card.now t n → m ≡ n }
+    ensures one_kind { (zone t u : ℕ) → (p q : Point)
+        → IsInZone card.now t zone → IsInZone card.now u zone → StandsAt card.now t p → StandsAt card.now u q
+        → t < storage_count card.now → u < storage_count card.now }
     ensures grid { (zone t u : ℕ) → (p q : Point)
         → IsInZone card.now t zone → IsInZone card.now u zone → StandsAt card.now t p → StandsAt card.now u q
         → (v : ℕ) × IsInZone card.now v zone × StandsAt card.now v (record { x = p.x; y = q.y }) }
