@@ -1,8 +1,9 @@
 #!/usr/bin/env python3
-"""Runs each example of the documents with a program, and compares what it writes with what stands there. Of docs/REFUSALS.md it also
-compares the status, sees that each kind of README's tables has its entry, and that the hint for each example is that entry.
+"""Runs each example of the documents with the launcher, and compares what it writes with what stands there. Of docs/REFUSALS.md it
+also compares the status, sees that each kind of README's tables has its entry, and that the hint for each example is that entry.
+The examples of one section are run one after another in one folder.
 
-    documents.py PROGRAM    a line for each example that differs, and the counts
+    documents.py LAUNCHER    a line for each example that differs, and the counts
 """
 import os
 import re
@@ -14,12 +15,12 @@ import tempfile
 
 TOP = os.path.realpath(os.path.join(os.path.dirname(os.path.abspath(__file__)), ".."))
 PAGES = ["README.md", "docs/REFUSALS.md", "docs/OUTPUT.md"]
-EXAMPLE = re.compile(r"^```(sh|qasm|json)\n(.*?)^```\n\n```\n(.*?)^```\n", re.M | re.S)
+EXAMPLE = re.compile(r"^```(sh|qasm|json)\n(.*?)^```\n(?:\n```\n(.*?)^```\n)?", re.M | re.S)
 
 
 class Example:
     def __init__(self, page, heading, status, form, text, answer):
-        self.page, self.heading, self.status, self.answer = page, heading, status, answer
+        self.page, self.heading, self.status, self.answer = page, heading, status, answer or ""
         self.files, self.commands = {}, text
         if form == "qasm":
             self.files["example.qasm"] = text
@@ -34,7 +35,8 @@ class Example:
         return shlex.split(line)[1:]
 
 
-def examples_of(page):
+def sections_of(page):
+    """The examples of each section of a page."""
     with open(os.path.join(TOP, page), encoding="utf-8") as file:
         text = file.read()
     status = 0
@@ -42,19 +44,26 @@ def examples_of(page):
         heading = section.split("\n", 1)[0].lstrip("# ").replace("`", "")
         named = re.match(r"Status (\d+):", heading)
         status = int(named.group(1)) if named else status
-        for found in EXAMPLE.finditer(section):
-            yield Example(page, heading, status if page.endswith("REFUSALS.md") else 0, *found.groups())
+        yield [Example(page, heading, status, *found.groups()) for found in EXAMPLE.finditer(section)]
 
 
-def run(example, program, folder):
-    """What the example writes, and its status. The folder is left with the example's files."""
-    os.symlink(program, os.path.join(folder, "zac"))
+def folder_with(launcher):
+    """A folder in which examples run as at the top of the repository."""
+    folder = tempfile.mkdtemp()
+    os.symlink(launcher, os.path.join(folder, "zac"))
     for name in ("examples", "tests", "tools", "docs"):
         os.symlink(os.path.join(TOP, name), os.path.join(folder, name))
+    return folder
+
+
+def run(example, folder):
+    """What the example writes, and its status."""
     for name, text in example.files.items():
         with open(os.path.join(folder, name), "w", encoding="utf-8") as file:
             file.write(text)
-    done = subprocess.run(["bash", "-c", example.commands], cwd=folder, stdin=subprocess.DEVNULL, stdout=subprocess.PIPE, stderr=subprocess.STDOUT, check=False)
+    plain = {name: value for name, value in os.environ.items() if name != "ZAC_HINTS"}
+    streams = {"stdin": subprocess.DEVNULL, "stdout": subprocess.PIPE, "stderr": subprocess.STDOUT}
+    done = subprocess.run(["bash", "-c", example.commands], cwd=folder, env=plain, check=False, **streams)
     return done.stdout.decode("utf-8", "replace"), done.returncode
 
 
@@ -87,20 +96,29 @@ def without_entry(entries):
     return [kind for kind in kinds if not any(re.match(rf"{kind}\b", heading) for heading in entries)]
 
 
+def faults_of(example, folder, entries):
+    """What differs between an example and what it does."""
+    written, status = run(example, folder)
+    if written != example.answer:
+        yield f"it writes {written[:300]!r}"
+    if example.page.endswith("REFUSALS.md"):
+        if status != example.status:
+            yield f"status {status} for {example.status}"
+        if hint_differs(example, folder, entries[example.heading]):
+            yield "its hint is another"
+
+
 def main():
-    program = os.path.abspath(sys.argv[1])
+    launcher = os.path.abspath(sys.argv[1])
     entries, passed, failed = sentences_of_entries(), 0, 0
-    for example in [example for page in PAGES for example in examples_of(page)]:
-        folder = tempfile.mkdtemp()
-        written, status = run(example, program, folder)
-        faults = [f"status {status} for {example.status}"] * (status != example.status)
-        faults += [f"it writes {written[:300]!r}"] * (written != example.answer)
-        if example.page.endswith("REFUSALS.md") and hint_differs(example, folder, entries[example.heading]):
-            faults.append("its hint is another")
+    for section in [section for page in PAGES for section in sections_of(page)]:
+        folder = folder_with(launcher)
+        for example in section:
+            faults = list(faults_of(example, folder, entries))
+            passed, failed = passed + (not faults), failed + bool(faults)
+            if faults:
+                print(f"FAILED: {example.page}, {example.heading}: {'; '.join(faults)}")
         shutil.rmtree(folder)
-        passed, failed = passed + (not faults), failed + bool(faults)
-        if faults:
-            print(f"FAILED: {example.page}, {example.heading}: {'; '.join(faults)}")
     for kind in without_entry(entries):
         failed += 1
         print(f"FAILED: docs/REFUSALS.md has no entry {kind}")
