@@ -1,6 +1,6 @@
 #!/usr/bin/env python3
-"""Draws programs with tools/draw and compares the data of each page with the text: every begin and end, and where each atom and each beam is,
-worked out from the text line by line and from the places of traps in tests/plan.py.
+"""Draws programs with tools/draw and compares the data of each page with the text: every begin and end, and where each atom and
+each beam is, worked out from the text line by line and from the places of traps in tests/plan.py.
 
     draw.py CARD ZAIR..    a line for each program whose page differs, and the counts
 """
@@ -74,7 +74,8 @@ class Text:
             if aod == line["aod"]:
                 self.place[q] = [self.active[aod, "column", column], self.active[aod, "row", row]]
                 self.places.append([self.now, q, aod, list(self.place[q])])
-        self.places += [[self.now, atom[0], None, list(self.place[atom[0]])] for atom in step.get("atoms", []) if kind == "deactivate"]
+        if kind == "deactivate":
+            self.places += [[self.now, q, None, list(self.place[q])] for q, _ in step["atoms"]]
         return [kind, begin, self.now]
 
 

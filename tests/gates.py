@@ -1,6 +1,6 @@
 #!/usr/bin/env python3
-"""Compares each gate that examples/gates.qasm declares with its matrix, up to a phase of the whole, and sees that each is called
-there. The matrices are worked out in floats, from the ops that tests/front.py makes of one call.
+"""Compares each gate that examples/gates.qasm declares with its matrix, up to a phase of the whole, and sees that each is
+called there. The matrices are worked out in floats, from the ops that tests/front.py makes of one call.
 
     gates.py    a line for each gate that differs, and the counts
 """
@@ -67,11 +67,14 @@ def expected():
     two_phased, three_phased = controlled(y, 2), controlled([[0, 1], [-1, 0]], 3)
     two_phased[5][5], three_phased[12][12], three_phased[13][13] = -1, 1j, -1j
     return {
-        "u0": identity(2), "cnot": controlled(x), "toffoli": controlled(x, 2), "fredkin": controlled(swap), "v": sx, "vdg": conj(sx),
+        "u0": identity(2), "cnot": controlled(x), "toffoli": controlled(x, 2), "fredkin": controlled(swap),
+        "v": sx, "vdg": conj(sx),
         "r": rotation(theta, about), "cu": controlled(phased), "cs": controlled(s), "csdg": controlled(conj(s)),
-        "csx": controlled(sx), "csxdg": controlled(conj(sx)), "ryy": rotation(theta, beside(y, y)), "rzx": rotation(theta, beside(z, x)),
+        "csx": controlled(sx), "csxdg": controlled(conj(sx)),
+        "ryy": rotation(theta, beside(y, y)), "rzx": rotation(theta, beside(z, x)),
         "ecr": ecr, "dcx": product([[1, 0, 0, 0], [0, 0, 0, 1], [0, 0, 1, 0], [0, 1, 0, 0]], controlled(x)),
-        "iswap": [[1, 0, 0, 0], [0, 0, 1j, 0], [0, 1j, 0, 0], [0, 0, 0, 1]], "ccz": controlled(z, 2), "rccx": two_phased, "rc3x": three_phased,
+        "iswap": [[1, 0, 0, 0], [0, 0, 1j, 0], [0, 1j, 0, 0], [0, 0, 0, 1]],
+        "ccz": controlled(z, 2), "rccx": two_phased, "rc3x": three_phased,
         "c3x": controlled(x, 3), "c3sqrtx": controlled(sx, 3), "c4x": controlled(x, 4),
     }
 
