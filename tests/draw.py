@@ -32,7 +32,8 @@ class Text:
         self.events = {"jobs": [], "gates": [], "pulses": [], "reads": []}
         self.places, self.beams, self.active, self.held = [], [], {}, {}
         for line in lines[2:]:
-            self.read(line)
+            if "begin" in line:
+                self.read(line)
 
     def read(self, line):
         begin, figures = line["begin"], self.card.figures
@@ -84,7 +85,7 @@ def faults(data, text, lines):
     for name, events in text.events.items():
         if data[name] != events:
             yield name
-    if data["homes"] != text.homes or data["end"] != max(line["end"] for line in lines[1:]):
+    if data["homes"] != text.homes or data["end"] != max(line["end"] for line in lines if "begin" in line):
         yield "homes or end"
     if [track[0] for track in data["atoms"]] != [[0, *text.card.points[trap]] for trap in text.homes]:
         yield "the places at the begin"
