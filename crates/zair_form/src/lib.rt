@@ -5,6 +5,8 @@
 mod copies;
 pub mod program;
 pub mod step;
+mod timer;
 
 pub use program::{Act, Instr, Program};
 pub use step::{Beam, Caught, Dropped, OneGate, PairOf, ReadOf, Step};
+pub use timer::StepTimer;
