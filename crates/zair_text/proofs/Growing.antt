@@ -17,7 +17,7 @@ split_at f (y ∷ ys) (suc i) x h e =
 pub joined_more : (before : List (List ℕ)) (bytes : List ℕ) → joined (before ++ bytes ∷ []) ≡ joined before ++ bytes
 joined_more before bytes = flat_map-append (λ (b : List ℕ). b) before (bytes ∷ []) ∙ ap (λ s. joined before ++ s) (append-nil bytes)
 
-take_one_more : {X : Type 0} (f : X → List ℕ) (xs : List X) (i : ℕ) (x : X) → i < length xs → x ≡ get_or xs i x → map f (take (i + 1) xs) ≡ map f (take i xs) ++ f x ∷ []
+pub take_one_more : {X Y : Type 0} (f : X → Y) (xs : List X) (i : ℕ) (x : X) → i < length xs → x ≡ get_or xs i x → map f (take (i + 1) xs) ≡ map f (take i xs) ++ f x ∷ []
 take_one_more f xs i x h e = map_more f xs i x h ∙ ap (λ z. map f (take i xs) ++ f z ∷ []) (sym e)
 
 -- the lines before place i went out

@@ -8,3 +8,5 @@ pub mod OneText
 pub mod SmallNumbers
 pub mod Writable
 pub mod Counting
+pub mod Sending
+pub mod ReadingBack

@@ -73,7 +73,7 @@ number_is (negative z) small = absurd small
 number_is (float x) small = absurd small
 
 mutual
-  HasNumbers-outline : (d : Data) → HasSmallNumbers d → tree.HasNumbers (outline d)
+  pub HasNumbers-outline : (d : Data) → HasSmallNumbers d → tree.HasNumbers (outline d)
   HasNumbers-outline null small = tt
   HasNumbers-outline (boolean b) small = tt
   HasNumbers-outline (number n) small = number_is n small
@@ -90,7 +90,7 @@ mutual
   MembersHaveNumbers-outline (member k d ms) small = (HasNumbers-outline d small.0, MembersHaveNumbers-outline ms small.1)
 
 mutual
-  depth-outline : (d : Data) → tree.depth (outline d) ≤ depth d
+  pub depth-outline : (d : Data) → tree.depth (outline d) ≤ depth d
   depth-outline null = omega arith
   depth-outline (boolean b) = omega arith
   depth-outline (number n) = omega arith

@@ -1,16 +1,17 @@
 //! Lines of a text.
 
-ghost use Rattle.std.specs.Prelude.{◌≡◌, ◌≤◌, ◌++◌, ◌∷◌, [], codes, decimal, false, IfOk, IsTrue};
+ghost use Rattle.std.specs.Prelude.{◌≡◌, ◌≤◌, ◌++◌, ◌∷◌, [], codes, decimal, false, IfOk, OnOk, IsTrue};
 ghost use Rattle.serde_json.specs.Data.{depth};
 ghost use Rattle.serde_json.specs.Read.{max_depth};
 ghost use Rattle.serde_json.specs.View.{view};
-ghost use Rattle.serde_json.specs.Written.{has_float};
+ghost use Rattle.serde_json.specs.Written.{has_float, compact_text};
 ghost use Rattle.zair_form.specs.Steps.{has_own_steps};
 ghost use Rattle.zair_text.specs.Values.{instr_value, header_value, end_value};
+ghost use Rattle.zair_text.specs.Ranges.{HasSmallNumbers};
 ghost use Rattle.zair_text.specs.Lines.{line, instr_line, totals_line, ReadsBack};
 
 use crate::counts::Totals;
-use crate::value::{ToJson, end_json, header_json};
+use crate::value::{Line, end_json, header_json};
 use serde_json::Value;
 use std::alloc::Global;
 use zac_gates::{Bytes, List, Memory};
@@ -28,6 +29,18 @@ fn line_from(alloc: Global, value: &Value) -> Result<Bytes, Memory>
     Ok(List::of(bytes))
 }
 
+// The compact text of an instruction's value. The writer refuses no event that an instruction sends, so that its errors are want
+// of memory.
+fn text_of(alloc: Global, instr: &Instr) -> Result<Vec<u8>, Memory>
+    ensures text { IfOk result (λ bytes. bytes.items ≡ compact_text (instr_value instr.now)) }
+    ensures small { OnOk result (HasSmallNumbers (instr_value instr.now)) }
+{
+    match serde_json::to_vec(alloc, &Line { instr }) {
+        Ok(bytes) => Ok(bytes),
+        Err(_) => Err(Memory),
+    }
+}
+
 /// The line of an instruction: its JSON object, written compactly with the keys in byte order, and a line feed.
 ///
 /// What stands before the line feed, which is the only one, reads as the instruction's value.
@@ -36,8 +49,9 @@ pub fn line_of(alloc: Global, instr: &Instr) -> Result<Bytes, Memory>
     ensures line { IfOk result (λ bytes. bytes ≡ instr_line instr.now) }
     ensures reads_back { IfOk result (ReadsBack (instr_value instr.now)) }
 {
-    let value = instr.to_json(alloc)?;
-    line_from(alloc, &value)
+    let mut bytes = text_of(alloc, instr)?;
+    bytes.push(b'\n')?;
+    Ok(List::of(bytes))
 }
 
 /// The first line of a text: `{"type":"zair","version":1}` and a line feed.
