@@ -8,3 +8,6 @@ pub mod Told
 pub mod FullStep
 pub mod Homing
 pub mod Applying
+pub mod Together
+pub mod PairWrongs
+pub mod PairSites

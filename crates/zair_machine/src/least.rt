@@ -1,6 +1,7 @@
 //! The least of numbers of which any may be missing.
 
 ghost use Rattle.std.specs.Prelude.{◌≡◌, Option, Some, None};
+ghost use Rattle.zair_machine.specs.Sites.{IsEarlierOf};
 ghost use Rattle.zair_state.specs.Least.{lesser_of, number_if, first_beam_of};
 
 use zair_state::{Axis, BeamId};
@@ -46,6 +47,23 @@ pub(crate) fn lesser_id_if(least: Option<u8>, counts: bool, n: u8) -> Option<u8>
         lesser_id(least, Some(n))
     } else {
         lesser_id(least, None)
+    }
+}
+
+/// The pair that comes first: by its first number, and then by its second.
+pub(crate) fn earlier(a: Option<(u32, u32)>, b: Option<(u32, u32)>) -> Option<(u32, u32)>
+    ensures { IsEarlierOf a b result }
+{
+    match (a, b) {
+        (None, _) => b,
+        (Some(_), None) => a,
+        (Some(p), Some(q)) => {
+            if p.0 < q.0 || (p.0 == q.0 && p.1 <= q.1) {
+                a
+            } else {
+                b
+            }
+        }
     }
 }
 

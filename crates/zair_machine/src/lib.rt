@@ -12,6 +12,7 @@ mod light;
 pub mod machine;
 mod opening;
 mod picks;
+mod sites;
 mod telling;
 mod unknown;
 

@@ -164,16 +164,22 @@ impl<'a> Machine<'a> {
 
     /// The least qubit that a pulse lights alone.
     fn lit_alone(&self, step: &Step) -> Option<u32>
+        requires met { AreMetBefore self.now.card self.now.state step.now 11 }
         ensures { IsLeastOf (IsLitAlone self.now.card self.now.state step.now) result }
     {
         match step {
-            Step::Pulse { pairs } => self.least_lit_alone(pairs.as_slice()),
+            Step::Pulse { .. } => {
+                let _sound = self.most_beams();
+                self.site_laws();
+                self.least_alone_at_site()
+            }
             _ => None,
         }
     }
 
     /// The least qubit that is lit alone, as a fault.
     fn tell_lit_alone(&self, step: &Step) -> Option<MachineFault>
+        requires met { AreMetBefore self.now.card self.now.state step.now 11 }
         ensures { Tells self.now.card self.now.state step.now 11 result }
     {
         match self.lit_alone(step) {
