@@ -1,0 +1,2 @@
+mod Zones
+mod Distinct

@@ -1,0 +1,6 @@
+pub mod Moves
+pub mod Groups
+pub mod FirstFit
+pub mod Tracks
+pub mod Members
+pub mod Fitting
