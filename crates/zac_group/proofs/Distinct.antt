@@ -8,7 +8,7 @@ use Rattle.std.proofs.lemmas.List.Sorted.{list_any-IsPermutation}
 use Rattle.zac_group.specs.Groups.{count_distinct}
 
 -- the list has the number
-abbrev has : ℕ → List ℕ → Bool
+abbrev pub has : ℕ → List ℕ → Bool
 has n ns = list_any (λ m. m == n) ns
 
 -- the list without a number
@@ -83,17 +83,11 @@ count_le (m ∷ ms) ns within =
           subst (λ b. cond b (count_distinct ms) (count_distinct ms + 1) ≤ count_distinct ns) (sym missing) (omega arith)
     ]
 
-pub count_permutes : (ms ns : List ℕ) → IsPermutation ms ns → count_distinct ms ≡ count_distinct ns
-count_permutes ms ns permutes =
-    let same : (n : ℕ) → has n ms ≡ has n ns = λ n. list_any-IsPermutation (λ m. m == n) ms ns permutes in
+pub count_same : (ms ns : List ℕ) → ((n : ℕ) → has n ms ≡ has n ns) → count_distinct ms ≡ count_distinct ns
+count_same ms ns same =
     let le = count_le ms ns (λ n h. sym (same n) ∙ h) in
     let ge = count_le ns ms (λ n h. same n ∙ h) in
     omega arith
 
-at_most : (h : Bool) (c l : ℕ) → c ≤ l → cond h c (c + 1) ≤ suc l
-at_most true c l le = omega arith
-at_most false c l le = omega arith
-
-pub count_most : (ns : List ℕ) → count_distinct ns ≤ length ns
-count_most [] = omega arith
-count_most (n ∷ ns) = at_most (has n ns) (count_distinct ns) (length ns) (count_most ns)
+pub count_permutes : (ms ns : List ℕ) → IsPermutation ms ns → count_distinct ms ≡ count_distinct ns
+count_permutes ms ns permutes = count_same ms ns (λ n. list_any-IsPermutation (λ m. m == n) ms ns permutes)

@@ -1,2 +1,6 @@
 mod Zones
+mod Compare
 mod Distinct
+mod TrackFacts
+mod MemberFacts
+mod FirstFitFacts

@@ -26,6 +26,13 @@ column_of a s = record { from = source_x a s; to = target_x a s }
 abbrev pub row_of : Architecture → Shift → Track
 row_of a s = record { from = source_y a s; to = target_y a s }
 
+-- where the column and the row of a route begin and end
+abbrev pub column : Route → Track
+column r = record { from = r.from.x; to = r.to.x }
+
+abbrev pub row : Route → Track
+row r = record { from = r.from.y; to = r.to.y }
+
 -- the moves of routes
 abbrev pub moves : List Route → List Shift
 moves routes = map (λ (r : Route). r.shift) routes

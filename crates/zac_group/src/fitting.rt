@@ -53,32 +53,15 @@ fn add_to(
     Ok(())
 }
 
-/// Puts the move at a place into its group, where those before it are in theirs.
-fn put(
-    alloc: Global,
-    card: &Card,
-    groups: &mut Vec<Members>,
-    ordered: &[Route],
-    k: usize,
-) -> Result<(), Memory>
-    requires k_in { k < length ordered.now }
-    requires routes { All (IsRoute card.now) ordered.now }
-    requires fitting { IsFitting card.now (moves (take k ordered.now)) groups.old.items }
-    ensures { OnOk result (IsFitting card.now (moves (take (k + 1) ordered.now)) groups.new.items) }
-{
-    let route = ordered[k];
-    let number = first_that_fits(card, groups.as_slice(), route);
-    add_to(alloc, card, groups, number, route)
-}
-
 /// The groups of moves by first fit, each with its moves in the order in which they are taken.
 pub fn first_fit(alloc: Global, card: &Card, ordered: &[Route]) -> Result<Vec<Members>, Memory>
     requires { All (IsRoute card.now) ordered.now }
     ensures { IfOk result (λ groups. IsFitting card.now (moves ordered.now) groups.items) }
 {
     let mut groups = Vec::new(alloc);
-    for k in 0..ordered.len() {
-        put(alloc, card, &mut groups, ordered, k)?;
+    for route in ordered {
+        let number = first_that_fits(card, groups.as_slice(), *route);
+        add_to(alloc, card, &mut groups, number, *route)?;
     }
     Ok(groups)
 }

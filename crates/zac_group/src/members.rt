@@ -2,7 +2,8 @@
 
 ghost use Rattle.std.specs.Prelude.{◌≡◌, ◌++◌, ◌↔◌, [], ◌∷◌, IfOk, IsTrue, OnOk};
 ghost use Rattle.zac_group.specs.FirstFit.{Fits};
-ghost use Rattle.zac_group.specs.Members.{IsMembers, IsRoute, moves};
+ghost use Rattle.zac_group.specs.Members.{IsMembers, IsRoute, column, moves, row};
+ghost use Rattle.zac_group.specs.Tracks.{Takes};
 
 use crate::route::{Route, Zones};
 use crate::tracks::{Track, join, takes};
@@ -41,24 +42,44 @@ impl Members {
         })
     }
 
+    /// Whether a move has the zones of these.
+    fn has_zones_of(&self, route: Route) -> bool
+        ensures { IsTrue result ↔ (self.now.zones ≡ route.zones) }
+    {
+        self.zones == route.zones
+    }
+
+    /// Whether the column of a move goes with those of these, and an AOD of the card has enough of them.
+    fn takes_column(&self, card: &Card, route: Route) -> bool
+        requires { IsMembers card.now self.now }
+        ensures { IsTrue result ↔ Takes self.now.columns.items (column route) card.now.figures.columns }
+    {
+        let most = usize::from(card.figures().columns);
+        takes(self.columns.as_slice(), route.column(), most)
+    }
+
+    /// Whether the row of a move goes with those of these, and an AOD of the card has enough of them.
+    fn takes_row(&self, card: &Card, route: Route) -> bool
+        requires { IsMembers card.now self.now }
+        ensures { IsTrue result ↔ Takes self.now.rows.items (row route) card.now.figures.rows }
+    {
+        let most = usize::from(card.figures().rows);
+        takes(self.rows.as_slice(), route.row(), most)
+    }
+
     /// Whether a move is compatible with all of these, and an AOD of the card has beams enough for them and it.
     pub fn fits(&self, card: &Card, route: Route) -> bool
         requires members { IsMembers card.now self.now }
         requires route { IsRoute card.now route }
         ensures { IsTrue result ↔ Fits card.now (moves self.now.routes.items) route.shift }
     {
-        let figures = card.figures();
-        self.zones == route.zones
-            && takes(
-                self.columns.as_slice(),
-                route.column(),
-                usize::from(figures.columns),
-            )
-            && takes(
-                self.rows.as_slice(),
-                route.row(),
-                usize::from(figures.rows),
-            )
+        if !self.has_zones_of(route) {
+            return false;
+        }
+        if !self.takes_column(card, route) {
+            return false;
+        }
+        self.takes_row(card, route)
     }
 
     /// Adds a move that fits.

@@ -1,9 +1,9 @@
 //! Moves with what is asked of their traps.
 
-ghost use Rattle.std.specs.Prelude.{◌≡◌, ◌+◌, ◌<◌, ◌↔◌, All, IfOk, IsTrue};
+ghost use Rattle.std.specs.Prelude.{◌≡◌, ◌<◌, All, IfOk};
 ghost use Rattle.zac_arch.specs.Architecture.{trap_count};
-ghost use Rattle.zac_group.specs.Members.{IsRoute, column_of, moves, row_of};
-ghost use Rattle.zac_group.specs.Moves.{HasTraps, distance, point_at};
+ghost use Rattle.zac_group.specs.Members.{IsRoute, column, moves, row};
+ghost use Rattle.zac_group.specs.Moves.{HasTraps, point_at};
 
 use crate::shift::Shift;
 use crate::tracks::Track;
@@ -61,7 +61,7 @@ impl Route {
 
     /// Where its column begins and ends.
     pub fn column(self) -> Track
-        ensures { result ≡ record { from = self.from.x; to = self.to.x } }
+        ensures { result ≡ column self }
     {
         Track {
             from: self.from.x,
@@ -71,7 +71,7 @@ impl Route {
 
     /// Where its row begins and ends.
     pub fn row(self) -> Track
-        ensures { result ≡ record { from = self.from.y; to = self.to.y } }
+        ensures { result ≡ row self }
     {
         Track {
             from: self.from.y,

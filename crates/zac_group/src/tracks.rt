@@ -1,9 +1,8 @@
 //! Rising tracks: which way the beams of one axis go.
 
-ghost use Rattle.std.specs.Prelude.{◌≡◌, ◌<◌, ◌≤◌, ◌↔◌, ◌++◌, [], ◌∷◌, ℕ, IsTrue, OnOk, length, map};
+ghost use Rattle.std.specs.Prelude.{◌≡◌, ◌<◌, ◌≤◌, ◌↔◌, ◌++◌, [], ◌∷◌, ℕ, IsTrue, OnOk, length};
 ghost use Rattle.std.specs.List.{All, slice_index_or};
-ghost use Rattle.zac_group.specs.Groups.{count_distinct};
-ghost use Rattle.zac_group.specs.Tracks.{AreRising, AreTracksOf, IsJoining, KeepsOrder};
+ghost use Rattle.zac_group.specs.Tracks.{AreRising, AreTracksOf, IsJoining, KeepsOrder, Takes};
 ghost use Rattle.zac_group.specs.declared.tracks.Track.{Track};
 
 use zac_memory::Memory;
@@ -66,7 +65,7 @@ fn place_of(tracks: &[Track], track: Track) -> Joining
 /// Whether a track keeps order with rising ones, and with it they are not more than so many.
 pub fn takes(tracks: &[Track], track: Track, most: usize) -> bool
     requires { AreRising tracks.now }
-    ensures { IsTrue result ↔ (All (KeepsOrder track) tracks.now × (count_distinct (map (λ (t : Track). t.from) (track ∷ tracks.now)) ≤ most)) }
+    ensures { IsTrue result ↔ Takes tracks.now track most }
 {
     match place_of(tracks, track) {
         Joining::Shared => tracks.len() <= most,
@@ -81,8 +80,10 @@ pub fn join(tracks: &mut Vec<Track>, track: Track) -> Result<(), Memory>
     requires order { All (KeepsOrder track) tracks.old.items }
     ensures { OnOk result (AreTracksOf (tracks.old.items ++ track ∷ []) tracks.new.items) }
 {
-    if let Joining::Between(place) = place_of(tracks.as_slice(), track) {
-        tracks.insert(place, track)?;
+    match place_of(tracks.as_slice(), track) {
+        Joining::Between(place) => tracks.insert(place, track)?,
+        Joining::Shared => {}
+        Joining::Crossing => {}
     }
     Ok(())
 }
