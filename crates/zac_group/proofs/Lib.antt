@@ -4,3 +4,5 @@ mod Distinct
 mod TrackFacts
 mod MemberFacts
 mod FirstFitFacts
+mod Orders
+mod Turning

@@ -4,3 +4,5 @@ pub mod FirstFit
 pub mod Tracks
 pub mod Members
 pub mod Fitting
+pub mod Turns
+pub mod Made

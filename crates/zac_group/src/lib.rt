@@ -13,6 +13,7 @@ mod pairs;
 mod route;
 mod shift;
 mod tracks;
+mod turns;
 
 pub use pairs::compatible;
 pub use grouping::{Group, groups};
