@@ -6,3 +6,6 @@ mod MemberFacts
 mod FirstFitFacts
 mod Orders
 mod Turning
+mod Phases
+mod GroupingFacts
+mod Unique

@@ -8,6 +8,7 @@
 
 mod fitting;
 mod grouping;
+mod laws;
 mod members;
 mod pairs;
 mod route;
@@ -17,5 +18,6 @@ mod turns;
 
 pub use pairs::compatible;
 pub use grouping::{Group, groups};
+pub use laws::one_grouping;
 pub use shift::Shift;
 pub use zac_memory::Memory;
