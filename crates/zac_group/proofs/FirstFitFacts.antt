@@ -1,6 +1,6 @@
 -- First fit, with one more move.
-use Rattle.std.proofs.Common.{◌≡◌, ◌≢◌, ℕ, suc, ◌+◌, ◌<◌, ◌≤◌, ◌⊎◌, ◌==◌, Bool, true, false, inl, inr, cond, None, Some, List, [], ◌∷◌, ◌++◌, length, take, map, All, get_or, set, slice_get, refl, sym, ap, ◌∙◌, subst, arith}
-use Rattle.std.proofs.lemmas.Bool.{cases_Bool, cases_eq, cases_lt, eq-eqb, ne_eqb}
+use Rattle.std.proofs.Common.{◌≡◌, ◌≢◌, ℕ, ◌+◌, ◌<◌, ◌≤◌, ◌==◌, Bool, true, false, inl, inr, cond, None, Some, List, [], ◌∷◌, ◌++◌, length, take, map, All, get_or, set, slice_get, refl, sym, ap, ◌∙◌, subst, arith}
+use Rattle.std.proofs.lemmas.Bool.{cases_eq, cases_lt, eq-eqb, ne_eqb}
 use Rattle.std.proofs.lemmas.List.{get_or_append_left, get_or_push, length_push, take-append-le, take_all, length-take-le, append-nil, get_or-map, map-set, get_or-set_same, get_or-set_other, get_or_past, map_more, length-map, length-set}
 use Rattle.std.proofs.lemmas.Option.{slice_get_within, slice_get-get_or, get_or_from_slice_get}
 use Rattle.zac_arch.specs.Architecture.{Architecture}
@@ -123,9 +123,9 @@ fitting_step a ms old new s n h le fits passed counted adds =
                 ∙ sym (members_push ms ns s n g same)
           ];
       below = λ k k_in. elim (cases_lt k (length ns)) as (λ _. get_or (ns ++ n ∷ []) k 0 < length new) [
-            | inl lt ↦ omega (arith, get_or_append_left ns (n ∷ []) 0 k lt, h.below k lt)
-            | inr ge ↦ omega (arith, get_or_push ns n 0 k (omega (arith, length_push ns n)))
-          ];
+        | inl lt ↦ omega (arith, get_or_append_left ns (n ∷ []) 0 k lt, h.below k lt)
+        | inr ge ↦ omega (arith, get_or_push ns n 0 k (omega (arith, length_push ns n)))
+      ];
       used = λ g g_in.
           elim (cases_eq g n) as (λ _. (k : ℕ) × (k < length (ns ++ n ∷ [])) × (get_or (ns ++ n ∷ []) k 0 ≡ g)) [
             | inl e ↦ (length ns, omega (arith, length_push ns n), get_or_push ns n 0 (length ns) refl ∙ sym e)

@@ -1,8 +1,8 @@
 -- The moves of a group, with one more.
-use Rattle.std.proofs.Common.{◌≡◌, ◌≢◌, ◌↔◌, ℕ, zero, suc, ◌+◌, ◌<◌, ◌≤◌, List, [], ◌∷◌, ◌++◌, length, map, get_or, refl, sym, ap, ◌∙◌, subst, arith, All}
-use Rattle.std.specs.List.{AllPairs, Contains}
+use Rattle.std.proofs.Common.{◌≡◌, ℕ, zero, suc, ◌<◌, List, [], ◌∷◌, ◌++◌, length, map, get_or, refl, sym, ap, ◌∙◌, subst, arith, All}
+use Rattle.std.specs.List.{AllPairs}
 use Rattle.std.proofs.lemmas.List.{get_or-map, get_or_default, length-map, length_push, map_push}
-use Rattle.std.proofs.lemmas.List.Elements.{All-get_or, All-push}
+use Rattle.std.proofs.lemmas.List.Elements.{All-push}
 use Rattle.std.proofs.lemmas.List.Quantifiers.{all_pairs_push}
 use Rattle.std.proofs.lemmas.List.Sorted.{IsPermutation-map, IsPermutation-to_front}
 use Rattle.zac_arch.specs.Architecture.{Architecture, IsInZone}
@@ -88,28 +88,30 @@ fits_zones a m r h is fits =
 pub fits_columns : (a : Architecture) (m : Members) (r : Route) → IsMembers a m → IsRoute a r → Fits a (moves m.routes.items) r.shift → Takes m.columns.items (column r) a.figures.columns
 fits_columns a m r h is fits =
     let ss = moves m.routes.items in
-    subst (λ (t : Track). Takes m.columns.items t a.figures.columns) (sym (column_is a r is))
-    (keeps_back (map (column_of a) ss) m.columns.items (column_of a r.shift) h.columns
-        (λ k d lt. let lt_too : k < length ss = omega (arith, length-map ss (column_of a)) in
+    subst (λ (t : Track). Takes m.columns.items t a.figures.columns) (sym (column_is a r is)) (
+      keeps_back (map (column_of a) ss) m.columns.items (column_of a r.shift) h.columns
+          (λ k d lt. let lt_too : k < length ss = omega (arith, length-map ss (column_of a)) in
           subst (λ (t : Track). KeepsOrder (column_of a r.shift) t)
           (sym (get_or-map (column_of a) ss k r.shift d lt_too)) (fits.compatible k r.shift lt_too).columns),
-    let counted = count_of (map (column_of a) ss) m.columns.items (column_of a r.shift) h.columns in
-    let begin = ap (λ (l : List ℕ). count_distinct (source_x a r.shift ∷ l)) (begins_x a ss) in
-    let few = fits.within.columns in
-    omega arith)
+      let counted = count_of (map (column_of a) ss) m.columns.items (column_of a r.shift) h.columns in
+          let begin = ap (λ (l : List ℕ). count_distinct (source_x a r.shift ∷ l)) (begins_x a ss) in
+          let few = fits.within.columns in
+          omega arith,
+    )
 
 pub fits_rows : (a : Architecture) (m : Members) (r : Route) → IsMembers a m → IsRoute a r → Fits a (moves m.routes.items) r.shift → Takes m.rows.items (row r) a.figures.rows
 fits_rows a m r h is fits =
     let ss = moves m.routes.items in
-    subst (λ (t : Track). Takes m.rows.items t a.figures.rows) (sym (row_is a r is))
-    (keeps_back (map (row_of a) ss) m.rows.items (row_of a r.shift) h.rows
-        (λ k d lt. let lt_too : k < length ss = omega (arith, length-map ss (row_of a)) in
+    subst (λ (t : Track). Takes m.rows.items t a.figures.rows) (sym (row_is a r is)) (
+      keeps_back (map (row_of a) ss) m.rows.items (row_of a r.shift) h.rows
+          (λ k d lt. let lt_too : k < length ss = omega (arith, length-map ss (row_of a)) in
           subst (λ (t : Track). KeepsOrder (row_of a r.shift) t)
           (sym (get_or-map (row_of a) ss k r.shift d lt_too)) (fits.compatible k r.shift lt_too).rows),
-    let counted = count_of (map (row_of a) ss) m.rows.items (row_of a r.shift) h.rows in
-    let begin = ap (λ (l : List ℕ). count_distinct (source_y a r.shift ∷ l)) (begins_y a ss) in
-    let few = fits.within.rows in
-    omega arith)
+      let counted = count_of (map (row_of a) ss) m.rows.items (row_of a r.shift) h.rows in
+          let begin = ap (λ (l : List ℕ). count_distinct (source_y a r.shift ∷ l)) (begins_y a ss) in
+          let few = fits.within.rows in
+          omega arith,
+    )
 
 pub fits_from : (a : Architecture) (m : Members) (r : Route) → IsMembers a m → IsRoute a r → m.zones ≡ r.zones →
     Takes m.columns.items (column r) a.figures.columns → Takes m.rows.items (row r) a.figures.rows → Fits a (moves m.routes.items) r.shift

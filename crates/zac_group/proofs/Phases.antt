@@ -1,5 +1,5 @@
 -- Phases in other orders, and parts of them.
-use Rattle.std.proofs.Common.{◌≡◌, ◌≢◌, ℕ, zero, suc, ◌+◌, ◌<◌, ◌≤◌, ◌==◌, Bool, true, false, cond, inl, inr, List, [], ◌∷◌, length, map, get_or, sym, ap, ◌∙◌, subst, arith, All}
+use Rattle.std.proofs.Common.{◌≡◌, ◌≢◌, ℕ, zero, suc, ◌≤◌, ◌==◌, Bool, true, false, cond, inl, inr, List, [], ◌∷◌, length, map, sym, subst, arith, All}
 use Rattle.std.specs.List.{AllPairs}
 use Rattle.std.specs.List.Sorted.{IsPermutation}
 use Rattle.std.proofs.lemmas.List.Elements.{All-cons, All-head, All-nil, All-tail}
@@ -10,7 +10,7 @@ use Rattle.zac_group.specs.declared.members.Members.{Members}
 use Rattle.zac_group.specs.declared.route.Route.{Route}
 use Rattle.zac_group.specs.declared.shift.Shift.{Shift}
 use Rattle.zac_group.specs.FirstFit.{members}
-use Rattle.zac_group.specs.Groups.{IsGroup, IsPhase, IsWithinLimits, MoveGroup, StartsBefore, count_distinct}
+use Rattle.zac_group.specs.Groups.{IsGroup, IsPhase, IsWithinLimits}
 use Rattle.zac_group.specs.Members.{IsMembers, IsRoute, moves}
 use Rattle.zac_group.specs.Moves.{HasTraps, IsBetweenKinds, IsCompatible, source_x, source_y}
 use Rattle.zac_group.specs.Turns.{IsBySource}

@@ -1,6 +1,6 @@
 -- Rising tracks, one more track, and how many there are.
 use Rattle.std.proofs.Common.{◌≡◌, ◌≢◌, ◌↔◌, ℕ, zero, suc, ◌+◌, ◌-◌, ◌<◌, ◌≤◌, ◌==◌, ◌||◌, Bool, true, false, inl, inr, cond, leb, List, [], ◌∷◌, ◌++◌, IsTrue, length, map, get_or, refl, sym, ap, ◌∙◌, subst, arith, All}
-use Rattle.std.specs.List.{AllPairs, Contains, insert, list_any}
+use Rattle.std.specs.List.{Contains, insert}
 use Rattle.std.specs.List.Sorted.{IsPermutation, IsNonDecreasingBy}
 use Rattle.std.proofs.lemmas.Bool.{cases_lt, eq-eqb, leb-true, le-leb, ne_eqb, or_cases, or_from, or_left, or_right}
 use Rattle.std.proofs.lemmas.Bool.Decides.{Decides-eqb}

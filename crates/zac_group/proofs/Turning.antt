@@ -1,5 +1,5 @@
 -- Sorted routes, from neighbour to neighbour.
-use Rattle.std.proofs.Common.{◌≡◌, ◌≢◌, ℕ, ◌+◌, ◌<◌, ◌≤◌, ◌⊎◌, false, inl, inr, List, length, map, get_or, sym, ap, ◌∙◌, subst, arith, All}
+use Rattle.std.proofs.Common.{◌≡◌, ◌≢◌, ℕ, ◌+◌, ◌<◌, ◌≤◌, ◌⊎◌, false, inl, inr, List, length, get_or, sym, subst, arith, All}
 use Rattle.std.specs.List.{AllPairs}
 use Rattle.std.specs.Ordering.{is_lt, nat_cmp, ordering_then}
 use Rattle.std.proofs.lemmas.List.{get_or-map, length-map}
@@ -31,7 +31,7 @@ goes_up a b c m n o (inr h) (inr k) = inr (omega arith, omega arith)
 
 pub in_turn_all : (rs : List Route) →
     ((k : ℕ) (d : Route) → k + 1 < length rs →
-      is_lt (ordering_then (nat_cmp (length_of (get_or rs k d)) (length_of (get_or rs (k + 1) d))) (nat_cmp (get_or rs (k + 1) d).shift.q (get_or rs k d).shift.q)) ≡ false) →
+    is_lt (ordering_then (nat_cmp (length_of (get_or rs k d)) (length_of (get_or rs (k + 1) d))) (nat_cmp (get_or rs (k + 1) d).shift.q (get_or rs k d).shift.q)) ≡ false) →
     AllPairs IsInTurn rs
 in_turn_all rs near =
     all_from_near Route IsInTurn
@@ -44,15 +44,15 @@ turned a b m n (inr h) = inr (sym h.0, h.1)
 
 pub by_source_all : (rs : List Route) →
     ((k : ℕ) (d : Route) → k + 1 < length rs →
-      is_lt (ordering_then (nat_cmp (get_or rs (k + 1) d).from.y (get_or rs k d).from.y) (nat_cmp (get_or rs (k + 1) d).from.x (get_or rs k d).from.x)) ≡ false) →
+    is_lt (ordering_then (nat_cmp (get_or rs (k + 1) d).from.y (get_or rs k d).from.y) (nat_cmp (get_or rs (k + 1) d).from.x (get_or rs k d).from.x)) ≡ false) →
     AllPairs IsBySource rs
 by_source_all rs near =
     all_from_near Route IsBySource
     (λ r s t h k. goes_up r.from.y s.from.y t.from.y r.from.x s.from.x t.from.x h k) rs
     (λ k d lt.
-      let r = get_or rs k d in
-      let s = get_or rs (k + 1) d in
-      turned s.from.y r.from.y s.from.x r.from.x (lesser_first s.from.y r.from.y s.from.x r.from.x (near k d lt)))
+    let r = get_or rs k d in
+    let s = get_or rs (k + 1) d in
+    turned s.from.y r.from.y s.from.x r.from.x (lesser_first s.from.y r.from.y s.from.x r.from.x (near k d lt)))
 
 -- some route
 nowhere : Route
@@ -87,12 +87,12 @@ pub taken_in_order : (a : Architecture) (rs : List Route) → All (IsRoute a) rs
 taken_in_order a rs routes apart turn =
     pairs_of_moves (IsTakenBefore a) rs
     (λ i j lt j_in.
-      let r = get_or rs i nowhere in
-      let s = get_or rs j nowhere in
-      let ne : r.shift.q ≢ s.shift.q = at_pair (λ (x y : Shift). x.q ≢ y.q) rs apart i j lt j_in in
-      subst (λ (m : ℕ). (distance a s.shift < m) ⊎ ((m ≡ distance a s.shift) × (r.shift.q < s.shift.q))) (length_is a r (routes i nowhere (omega arith)))
-      (subst (λ (n : ℕ). (n < length_of r) ⊎ ((length_of r ≡ n) × (r.shift.q < s.shift.q))) (length_is a s (routes j nowhere j_in))
-      (taken (length_of r) (length_of s) r.shift.q s.shift.q (turn i j nowhere lt j_in) ne)))
+    let r = get_or rs i nowhere in
+    let s = get_or rs j nowhere in
+    let ne : r.shift.q ≢ s.shift.q = at_pair (λ (x y : Shift). x.q ≢ y.q) rs apart i j lt j_in in
+    subst (λ (m : ℕ). (distance a s.shift < m) ⊎ ((m ≡ distance a s.shift) × (r.shift.q < s.shift.q))) (length_is a r (routes i nowhere (omega arith)))
+    (subst (λ (n : ℕ). (n < length_of r) ⊎ ((length_of r ≡ n) × (r.shift.q < s.shift.q))) (length_is a s (routes j nowhere j_in))
+    (taken (length_of r) (length_of s) r.shift.q s.shift.q (turn i j nowhere lt j_in) ne)))
 
 stands : (a : Architecture) (t : TrapId) → t.0 < trap_count a → StandsAt a t.0 (point_at a t)
 stands a t lt = slice_get-get_or (trap_points a) t.0 (record { x = 0; y = 0 }) lt
@@ -106,18 +106,18 @@ pub starts_in_order : (a : Architecture) (rs : List Route) → ((t u : ℕ) (p :
 starts_in_order a rs one_trap routes apart by =
     pairs_of_moves (StartsBefore a) rs
     (λ i j lt j_in.
-      let r = get_or rs i nowhere in
-      let s = get_or rs j nowhere in
-      let r_is = routes i nowhere (omega arith) in
-      let s_is = routes j nowhere j_in in
-      let ne : r.shift.from ≢ s.shift.from = at_pair (λ (x y : Shift). x.from ≢ y.from) rs apart i j lt j_in in
-      let points : (source_y a r.shift < source_y a s.shift) ⊎ ((source_y a r.shift ≡ source_y a s.shift) × (source_x a r.shift ≤ source_x a s.shift)) =
-      subst (λ (p : Point). (p.y < source_y a s.shift) ⊎ ((p.y ≡ source_y a s.shift) × (p.x ≤ source_x a s.shift))) r_is.from
-      (subst (λ (p : Point). (r.from.y < p.y) ⊎ ((r.from.y ≡ p.y) × (r.from.x ≤ p.x))) s_is.from (by i j nowhere lt j_in)) in
-      starts (source_y a r.shift) (source_y a s.shift) (source_x a r.shift) (source_x a s.shift) points
-      (λ same_y same_x.
-        let one_point : point_at a r.shift.from ≡ point_at a s.shift.from = λ k. record { x = same_x k; y = same_y k } in
-        let same : r.shift.from.0 ≡ s.shift.from.0 =
-        one_trap r.shift.from.0 s.shift.from.0 (point_at a s.shift.from)
-        (subst (λ (p : Point). StandsAt a r.shift.from.0 p) one_point (stands a r.shift.from r_is.traps.from_in)) (stands a s.shift.from s_is.traps.from_in) in
-        ne (λ k. record { 0 = same k })))
+    let r = get_or rs i nowhere in
+    let s = get_or rs j nowhere in
+    let r_is = routes i nowhere (omega arith) in
+    let s_is = routes j nowhere j_in in
+    let ne : r.shift.from ≢ s.shift.from = at_pair (λ (x y : Shift). x.from ≢ y.from) rs apart i j lt j_in in
+    let points : (source_y a r.shift < source_y a s.shift) ⊎ ((source_y a r.shift ≡ source_y a s.shift) × (source_x a r.shift ≤ source_x a s.shift)) =
+    subst (λ (p : Point). (p.y < source_y a s.shift) ⊎ ((p.y ≡ source_y a s.shift) × (p.x ≤ source_x a s.shift))) r_is.from
+    (subst (λ (p : Point). (r.from.y < p.y) ⊎ ((r.from.y ≡ p.y) × (r.from.x ≤ p.x))) s_is.from (by i j nowhere lt j_in)) in
+    starts (source_y a r.shift) (source_y a s.shift) (source_x a r.shift) (source_x a s.shift) points
+    (λ same_y same_x.
+    let one_point : point_at a r.shift.from ≡ point_at a s.shift.from = λ k. record { x = same_x k; y = same_y k } in
+    let same : r.shift.from.0 ≡ s.shift.from.0 =
+    one_trap r.shift.from.0 s.shift.from.0 (point_at a s.shift.from)
+    (subst (λ (p : Point). StandsAt a r.shift.from.0 p) one_point (stands a r.shift.from r_is.traps.from_in)) (stands a s.shift.from s_is.traps.from_in) in
+    ne (λ k. record { 0 = same k })))

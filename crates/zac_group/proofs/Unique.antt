@@ -1,6 +1,6 @@
 -- One grouping of moves at most.
-use Rattle.std.proofs.Common.{◌≡◌, ◌≢◌, ℕ, zero, suc, ◌+◌, ◌<◌, ◌≤◌, ◌⊎◌, ◌==◌, inl, inr, cond, Some, None, List, [], ◌∷◌, ◌++◌, length, take, get_or, slice_get, refl, sym, ap, ◌∙◌, subst, arith, All}
-use Rattle.std.specs.List.{AllPairs, Contains}
+use Rattle.std.proofs.Common.{◌≡◌, ℕ, zero, suc, ◌+◌, ◌<◌, ◌≤◌, ◌==◌, inl, inr, cond, Some, List, [], ◌∷◌, ◌++◌, length, take, get_or, slice_get, refl, sym, ap, ◌∙◌, subst, arith}
+use Rattle.std.specs.List.{AllPairs}
 use Rattle.std.specs.List.Sorted.{IsPermutation}
 use Rattle.std.proofs.lemmas.Bool.{cases_Bool, cases_lt, cases_order}
 use Rattle.std.proofs.lemmas.Bool.Decides.{Decides-eqb}
@@ -10,8 +10,7 @@ use Rattle.std.proofs.lemmas.Option.{slice_get-get_or}
 use Rattle.zac_arch.specs.Architecture.{Architecture}
 use Rattle.zac_group.specs.declared.shift.Shift.{Shift}
 use Rattle.zac_group.specs.FirstFit.{Fits, IsFirstFit, IsGrouping, IsTakenBefore, members, members_before}
-use Rattle.zac_group.specs.Groups.{IsGroup, MoveGroup, StartsBefore}
-use Rattle.zac_group.specs.Moves.{distance, source_x, source_y}
+use Rattle.zac_group.specs.Groups.{MoveGroup, StartsBefore}
 use Rattle.zac_group.proofs.Orders.{ordered_same}
 
 -- the orders go one way
@@ -117,18 +116,18 @@ one_grouping a shifts gs hs g h =
     let least = as_many a shifts hs gs h g (sym numbers) in
     same_lists gs hs (omega arith)
     (λ k d lt.
-      let x : MoveGroup = get_or gs k d in
-      let y : MoveGroup = get_or hs k d in
-      let x_got : slice_get gs k ≡ Some x = slice_get-get_or gs k d lt in
-      let y_got : slice_get hs k ≡ Some y = slice_get-get_or hs k d (omega arith) in
-      let x_card : x.card ≡ a = g.cards k d lt in
-      let y_card : y.card ≡ a = h.cards k d (omega arith) in
-      let same : members h.ordered h.numbers k ≡ members g.ordered g.numbers k =
-      ap (λ (l : List Shift). members l h.numbers k) (sym ordered) ∙ ap (λ (l : List ℕ). members g.ordered l k) (sym numbers) in
-      let shifts_same : x.shifts ≡ y.shifts =
-      one_order (StartsBefore a) (starts_one_way a) (members g.ordered g.numbers k) x.shifts y.shifts (g.shifts_are k x x_got)
-      (subst (λ (l : List Shift). IsPermutation l y.shifts) same (h.shifts_are k y y_got))
-      (subst (λ (b : Architecture). AllPairs (StartsBefore b) x.shifts) x_card (g.kept k d lt).in_order)
-      (subst (λ (b : Architecture). AllPairs (StartsBefore b) y.shifts) y_card (h.kept k d (omega arith)).in_order) in
-      let card_same : x.card ≡ y.card = x_card ∙ sym y_card in
-      λ i. record { card = card_same i; shifts = shifts_same i })
+    let x : MoveGroup = get_or gs k d in
+    let y : MoveGroup = get_or hs k d in
+    let x_got : slice_get gs k ≡ Some x = slice_get-get_or gs k d lt in
+    let y_got : slice_get hs k ≡ Some y = slice_get-get_or hs k d (omega arith) in
+    let x_card : x.card ≡ a = g.cards k d lt in
+    let y_card : y.card ≡ a = h.cards k d (omega arith) in
+    let same : members h.ordered h.numbers k ≡ members g.ordered g.numbers k =
+    ap (λ (l : List Shift). members l h.numbers k) (sym ordered) ∙ ap (λ (l : List ℕ). members g.ordered l k) (sym numbers) in
+    let shifts_same : x.shifts ≡ y.shifts =
+    one_order (StartsBefore a) (starts_one_way a) (members g.ordered g.numbers k) x.shifts y.shifts (g.shifts_are k x x_got)
+    (subst (λ (l : List Shift). IsPermutation l y.shifts) same (h.shifts_are k y y_got))
+    (subst (λ (b : Architecture). AllPairs (StartsBefore b) x.shifts) x_card (g.kept k d lt).in_order)
+    (subst (λ (b : Architecture). AllPairs (StartsBefore b) y.shifts) y_card (h.kept k d (omega arith)).in_order) in
+    let card_same : x.card ≡ y.card = x_card ∙ sym y_card in
+    λ i. record { card = card_same i; shifts = shifts_same i })

@@ -1,5 +1,5 @@
 -- First fit: which moves go into which group.
-use Rattle.std.specs.Prelude.{◌≡◌, ℕ, ◌+◌, ◌==◌, ◌<◌, ◌≤◌, ◌⊎◌, Some, List, [], ◌∷◌, length, take, All, slice_index, if◌then◌else◌}
+use Rattle.std.specs.Prelude.{◌≡◌, ℕ, ◌==◌, ◌<◌, ◌⊎◌, Some, List, [], ◌∷◌, length, take, All, slice_index, if◌then◌else◌}
 use Rattle.std.specs.List.{AllPairs, slice_get}
 use Rattle.std.specs.List.Sorted.{IsPermutation}
 use Rattle.zac_arch.specs.Architecture.{Architecture}

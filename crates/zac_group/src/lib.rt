@@ -16,8 +16,8 @@ mod shift;
 mod tracks;
 mod turns;
 
-pub use pairs::compatible;
 pub use grouping::{Group, groups};
 pub use laws::one_grouping;
+pub use pairs::compatible;
 pub use shift::Shift;
 pub use zac_memory::Memory;

@@ -37,10 +37,22 @@ pub fn compatible(card: &Card, a: Shift, b: Shift) -> bool
 {
     let (from, to) = (point_at(card, a.from), point_at(card, a.to));
     let (other_from, other_to) = (point_at(card, b.from), point_at(card, b.to));
-    let column = Track { from: from.x, to: to.x };
-    let other_column = Track { from: other_from.x, to: other_to.x };
-    let row = Track { from: from.y, to: to.y };
-    let other_row = Track { from: other_from.y, to: other_to.y };
+    let column = Track {
+        from: from.x,
+        to: to.x,
+    };
+    let other_column = Track {
+        from: other_from.x,
+        to: other_to.x,
+    };
+    let row = Track {
+        from: from.y,
+        to: to.y,
+    };
+    let other_row = Track {
+        from: other_from.y,
+        to: other_to.y,
+    };
     in_one_zone(card, a.from, b.from)
         && in_one_zone(card, a.to, b.to)
         && keeps_order(column, other_column)

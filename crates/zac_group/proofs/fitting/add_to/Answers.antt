@@ -1,4 +1,4 @@
-use Rattle.std.proofs.Common.{◌≡◌, List, All, arith, rules, subst, sym}
+use Rattle.std.proofs.Common.{List, All, arith, rules, subst, sym}
 use Rattle.std.proofs.lemmas.List.Elements.{All-push, All-set}
 use Rattle.zac_group.specs.declared.members.Members.{Members}
 use Rattle.zac_group.specs.Members.{IsMembers}

@@ -1,9 +1,9 @@
-use Rattle.std.proofs.Common.{◌≡◌, ℕ, ◌<◌, List, length, subst, sym}
+use Rattle.std.proofs.Common.{List, length, subst, sym}
 use Rattle.std.specs.List.Sorted.{IsPermutation}
 use Rattle.zac_group.specs.declared.members.Members.{Members}
 use Rattle.zac_group.specs.declared.route.Route.{Route}
 use Rattle.zac_group.specs.declared.shift.Shift.{Shift}
-use Rattle.zac_group.specs.Fitting.{IsFitting, shifts_at}
+use Rattle.zac_group.specs.Fitting.{IsFitting}
 use Rattle.zac_group.specs.FirstFit.{IsGrouping}
 use Rattle.zac_group.specs.Groups.{MoveGroup}
 use Rattle.zac_group.specs.Made.{AreMadeOf}

@@ -1,11 +1,11 @@
-use Rattle.std.proofs.Common.{◌≡◌, List, ap, ◌∙◌, subst, sym}
+use Rattle.std.proofs.Common.{List, ap, ◌∙◌, subst, sym}
 use Rattle.std.specs.List.Sorted.{IsPermutation}
 use Rattle.zac_group.specs.declared.members.Members.{Members}
 use Rattle.zac_group.specs.declared.shift.Shift.{Shift}
 use Rattle.zac_group.specs.Groups.{IsPhase}
 use Rattle.zac_group.specs.Members.{moves}
 use Rattle.zac_group.proofs.FirstFitFacts.{shifts_here}
-use Rattle.zac_group.proofs.GroupingFacts.{made_more, made_none}
+use Rattle.zac_group.proofs.GroupingFacts.{made_more}
 use Rattle.zac_group.proofs.grouping.groups_of.Goals as goal
 
 pub group_of-requires-clause-phase : goal.group_of-requires-clause-phase

@@ -7,6 +7,7 @@ pub returns : goal.returns
 returns c =
     let a = c.args.card.now in
     let z = c.zone_of.result in
-    let y = c.zone_of-2.result in
-    (λ same. (z, c.zone_of.ensures, subst (λ (n : ℕ). IsInZone a c.args.u.0 n) (sym (eqb-true z y same)) c.zone_of-2.ensures),
-    λ w. eq-eqb z y (one_zone a c.args.t.0 z w.0 c.zone_of.ensures w.1 ∙ sym (one_zone a c.args.u.0 y w.0 c.zone_of-2.ensures w.2)))
+    let y = c.zone_of-2.result in (
+      λ same. (z, c.zone_of.ensures, subst (λ (n : ℕ). IsInZone a c.args.u.0 n) (sym (eqb-true z y same)) c.zone_of-2.ensures),
+      λ w. eq-eqb z y (one_zone a c.args.t.0 z w.0 c.zone_of.ensures w.1 ∙ sym (one_zone a c.args.u.0 y w.0 c.zone_of-2.ensures w.2)),
+    )

@@ -1,4 +1,4 @@
-use Rattle.std.proofs.Common.{◌≡◌, List, ◌++◌, ◌∷◌, [], subst, sym}
+use Rattle.std.proofs.Common.{List, ◌++◌, ◌∷◌, [], subst, sym}
 use Rattle.std.specs.List.{Contains}
 use Rattle.zac_group.specs.declared.tracks.Track.{Track}
 use Rattle.zac_group.specs.Tracks.{AreTracksOf, IsBetween}

@@ -1,4 +1,4 @@
-use Rattle.std.proofs.Common.{◌≡◌, ◌-◌, ◌<◌, get_or, arith}
+use Rattle.std.proofs.Common.{◌-◌, ◌<◌, get_or, arith}
 use Rattle.zac_group.specs.declared.tracks.Track.{Track}
 use Rattle.zac_group.specs.Tracks.{IsBelow}
 use Rattle.zac_group.proofs.TrackFacts.{lies_between}

@@ -1,4 +1,4 @@
-use Rattle.std.proofs.Common.{◌≡◌, ◌+◌, ◌∷◌, suc, length, All, arith}
+use Rattle.std.proofs.Common.{◌∷◌, suc, length, All, arith}
 use Rattle.zac_group.specs.Groups.{count_distinct}
 use Rattle.zac_group.specs.Tracks.{KeepsOrder}
 use Rattle.zac_group.proofs.TrackFacts.{begins, between_keeps, count_between, count_shared, shared_keeps, within_limit}

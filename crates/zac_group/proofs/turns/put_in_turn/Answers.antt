@@ -1,4 +1,4 @@
-use Rattle.std.proofs.Common.{◌≡◌, ◌<◌, ◌≤◌, ℕ, ◌+◌, rules, arith}
+use Rattle.std.proofs.Common.{rules, arith}
 use Rattle.std.proofs.lemmas.List.Sorted.{answers_always}
 use Rattle.zac_group.specs.declared.route.Route.{Route}
 use Rattle.zac_group.specs.Turns.{length_of}

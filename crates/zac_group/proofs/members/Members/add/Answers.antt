@@ -1,4 +1,4 @@
-use Rattle.std.proofs.Common.{◌≡◌, List, ◌++◌, ◌∷◌, [], All, refl, subst, sym}
+use Rattle.std.proofs.Common.{◌++◌, ◌∷◌, [], All, refl, subst, sym}
 use Rattle.zac_group.specs.declared.members.Members.{Members}
 use Rattle.zac_group.specs.declared.tracks.Track.{Track}
 use Rattle.zac_group.specs.Tracks.{AreTracksOf, KeepsOrder}

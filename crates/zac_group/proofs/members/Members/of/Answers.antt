@@ -1,4 +1,4 @@
-use Rattle.std.proofs.Common.{◌≡◌, List, ◌∷◌, [], ap, ◌∙◌, refl, subst}
+use Rattle.std.proofs.Common.{◌∷◌, [], ap, ◌∙◌, refl, subst}
 use Rattle.zac_arch.specs.declared.card.Figures.{Figures}
 use Rattle.zac_arch.specs.Rules.{HasFigureRanges}
 use Rattle.zac_group.specs.declared.members.Members.{Members}

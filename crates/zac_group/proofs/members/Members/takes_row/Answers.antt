@@ -1,4 +1,4 @@
-use Rattle.std.proofs.Common.{◌≡◌, ◌↔◌, ℕ, IsTrue, List, ap, ◌∙◌, subst, sym}
+use Rattle.std.proofs.Common.{◌↔◌, ℕ, IsTrue, List, ap, ◌∙◌, subst, sym}
 use Rattle.zac_arch.specs.declared.card.Figures.{Figures}
 use Rattle.zac_group.specs.declared.tracks.Track.{Track}
 use Rattle.zac_group.specs.Members.{row}
