@@ -14,6 +14,8 @@ mod forms;
 #[cfg(test)]
 mod gates;
 #[cfg(test)]
+mod grouping;
+#[cfg(test)]
 mod io;
 #[cfg(test)]
 mod machines;

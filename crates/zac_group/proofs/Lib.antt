@@ -1,0 +1,11 @@
+mod Zones
+mod Compare
+mod Distinct
+mod TrackFacts
+mod MemberFacts
+mod FirstFitFacts
+mod Orders
+mod Turning
+mod Phases
+mod GroupingFacts
+mod Unique
