@@ -9,8 +9,7 @@ use Rattle.qasm_form.specs.declared.stmt.Function.{Function}
 use Rattle.qasm_form.specs.declared.stmt.Function.TheVariants as fun
 use Rattle.qasm_form.specs.declared.stmt.Node.{Node}
 use Rattle.qasm_form.specs.declared.stmt.Node.TheVariants as node
-use Rattle.qasm_form.specs.Numbers.{HasNumber}
-use Rattle.qasm_form.proofs.NumberBytes.{number_fits}
+use Rattle.qasm_form.specs.Numbers.{HasNumber, IsNumber}
 use Rattle.qasm_form.specs.Postfix.{IsPostfix}
 use Rattle.qasm_expand.specs.Trees.{Tree, postfix, function_text, signed, text}
 use Rattle.qasm_expand.specs.Angles.{tree_of, angle_text}
@@ -84,32 +83,37 @@ left_fit a b x h = before_all IsAngleNode (postfix a) (postfix b ++ x ∷ []) h
 right_fit : (a b : Tree) (x : Node) → AreAngleNodes (postfix a ++ (postfix b ++ x ∷ [])) → AreAngleNodes (postfix b)
 right_fit a b x h = before_all IsAngleNode (postfix b) (x ∷ []) (behind_all IsAngleNode (postfix a) (postfix b ++ x ∷ []) h)
 
-tree_fits : (t : Tree) → AreAngleNodes (postfix t) → Fits (length (postfix t)) (text t)
-tree_fits (Tree.Number source) h =
-    let fits = number_fits source h.0.0 in
-    (fits.0, omega (arith, h.0.1), fits.1)
-tree_fits Tree.Pi h = (omega arith, omega arith, refl)
-tree_fits (Tree.Name name at) h = absurd (omega (arith, h.0.1.1))
-tree_fits (Tree.Negate a) h =
-    one_fits (codes "(-") (text a) (postfix a) node.Negate (omega arith) (omega arith) refl (tree_fits a (before_all IsAngleNode (postfix a) (node.Negate ∷ []) h))
-tree_fits (Tree.Apply f a) h =
-    apply_fits f (text a) (postfix a) (node.Apply f) (tree_fits a (before_all IsAngleNode (postfix a) (node.Apply f ∷ []) h))
-tree_fits (Tree.Plus a b) h =
-    two_fits (codes "+") (text a) (text b) (postfix a) (postfix b) node.Plus refl refl (tree_fits a (left_fit a b node.Plus h)) (tree_fits b (right_fit a b node.Plus h))
-tree_fits (Tree.Minus a b) h =
-    two_fits (codes "-") (text a) (text b) (postfix a) (postfix b) node.Minus refl refl (tree_fits a (left_fit a b node.Minus h)) (tree_fits b (right_fit a b node.Minus h))
-tree_fits (Tree.Times a b) h =
-    two_fits (codes "*") (text a) (text b) (postfix a) (postfix b) node.Times refl refl (tree_fits a (left_fit a b node.Times h)) (tree_fits b (right_fit a b node.Times h))
-tree_fits (Tree.Over a b) h =
-    two_fits (codes "/") (text a) (text b) (postfix a) (postfix b) node.Over refl refl (tree_fits a (left_fit a b node.Over h)) (tree_fits b (right_fit a b node.Over h))
-tree_fits (Tree.Power a b) h =
-    two_fits (codes "^") (text a) (text b) (postfix a) (postfix b) node.Power refl refl (tree_fits a (left_fit a b node.Power h)) (tree_fits b (right_fit a b node.Power h))
+-- what is known of numbers
+abbrev pub NumbersFit : Type 0
+NumbersFit = (source : List ℕ) → IsNumber source → (0 < length source) × IsTrue (list_all is_angle_byte source)
 
--- of at most 256 nodes that are an expression without names
-pub text_is_angle : (nodes : List Node) → length nodes ≤ 256 → IsPostfix nodes → AllByRecursion HasNumber nodes → HasNoNames nodes → IsTrue (is_angle (angle_text nodes))
-text_is_angle nodes few postfix_order numbers closed =
-    let same : postfix (tree_of nodes) ≡ nodes = postfix_tree_of nodes postfix_order in
-    let fits : Fits (length nodes) (angle_text nodes) = subst (λ ns. Fits (length ns) (angle_text nodes)) same (tree_fits (tree_of nodes) (subst AreAngleNodes (flip same) (both nodes numbers closed))) in
-    let some : 1 ≤ length (angle_text nodes) = omega (arith, fits.0) in
-    let most : length (angle_text nodes) ≤ 16384 = omega (arith, fits.1, few) in
-    and_from _ _ (and_from _ _ (le-leb _ _ some) (le-leb _ _ most)) fits.2
+module _ (numbers : NumbersFit) where
+  tree_fits : (t : Tree) → AreAngleNodes (postfix t) → Fits (length (postfix t)) (text t)
+  tree_fits (Tree.Number source) h =
+      let fits = numbers source h.0.0 in
+      (fits.0, omega (arith, h.0.1), fits.1)
+  tree_fits Tree.Pi h = (omega arith, omega arith, refl)
+  tree_fits (Tree.Name name at) h = absurd (omega (arith, h.0.1.1))
+  tree_fits (Tree.Negate a) h =
+      one_fits (codes "(-") (text a) (postfix a) node.Negate (omega arith) (omega arith) refl (tree_fits a (before_all IsAngleNode (postfix a) (node.Negate ∷ []) h))
+  tree_fits (Tree.Apply f a) h =
+      apply_fits f (text a) (postfix a) (node.Apply f) (tree_fits a (before_all IsAngleNode (postfix a) (node.Apply f ∷ []) h))
+  tree_fits (Tree.Plus a b) h =
+      two_fits (codes "+") (text a) (text b) (postfix a) (postfix b) node.Plus refl refl (tree_fits a (left_fit a b node.Plus h)) (tree_fits b (right_fit a b node.Plus h))
+  tree_fits (Tree.Minus a b) h =
+      two_fits (codes "-") (text a) (text b) (postfix a) (postfix b) node.Minus refl refl (tree_fits a (left_fit a b node.Minus h)) (tree_fits b (right_fit a b node.Minus h))
+  tree_fits (Tree.Times a b) h =
+      two_fits (codes "*") (text a) (text b) (postfix a) (postfix b) node.Times refl refl (tree_fits a (left_fit a b node.Times h)) (tree_fits b (right_fit a b node.Times h))
+  tree_fits (Tree.Over a b) h =
+      two_fits (codes "/") (text a) (text b) (postfix a) (postfix b) node.Over refl refl (tree_fits a (left_fit a b node.Over h)) (tree_fits b (right_fit a b node.Over h))
+  tree_fits (Tree.Power a b) h =
+      two_fits (codes "^") (text a) (text b) (postfix a) (postfix b) node.Power refl refl (tree_fits a (left_fit a b node.Power h)) (tree_fits b (right_fit a b node.Power h))
+
+  -- of at most 256 nodes that are an expression without names
+  pub text_is_angle : (nodes : List Node) → length nodes ≤ 256 → IsPostfix nodes → AllByRecursion HasNumber nodes → HasNoNames nodes → IsTrue (is_angle (angle_text nodes))
+  text_is_angle nodes few postfix_order with_numbers closed =
+      let same : postfix (tree_of nodes) ≡ nodes = postfix_tree_of nodes postfix_order in
+      let fits : Fits (length nodes) (angle_text nodes) = subst (λ ns. Fits (length ns) (angle_text nodes)) same (tree_fits (tree_of nodes) (subst AreAngleNodes (flip same) (both nodes with_numbers closed))) in
+      let some : 1 ≤ length (angle_text nodes) = omega (arith, fits.0) in
+      let most : length (angle_text nodes) ≤ 16384 = omega (arith, fits.1, few) in
+      and_from _ _ (and_from _ _ (le-leb _ _ some) (le-leb _ _ most)) fits.2

@@ -8,6 +8,7 @@ ghost use Rattle.qasm_expand.specs.StackReadings.{on_one, on_two, read_node};
 
 use crate::angle_node::{Arity, arity_of};
 use crate::angle_stack::{pop, push};
+use qasm_form::laws::numbers_have_angle_bytes;
 use qasm_form::{Expr, Function, Node};
 use std::alloc::Global;
 use zac_gates::{Angle, Bytes, List, Memory};
@@ -141,6 +142,7 @@ pub(crate) fn angle_text_of(alloc: Global, angle: &Expr) -> Result<Angle, Memory
     requires closed { HasNoNames angle.now }
     ensures { IfOk result (λ text. text ≡ angle_text angle.now) }
 {
+    numbers_have_angle_bytes();
     let text = text_bytes(alloc, angle.as_slice())?;
     match Angle::new(text) {
         Ok(angle) => Ok(angle),

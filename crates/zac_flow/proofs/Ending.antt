@@ -19,7 +19,12 @@ use Rattle.zac_flow.specs.declared.status.Fault.TheVariants.{Usage, Read, Long, 
 use Rattle.zac_flow.specs.declared.status.InputFile.TheVariants as file
 use Rattle.zac_flow.specs.declared.status.Status.{Status}
 use Rattle.zac_flow.specs.declared.status.Status.TheVariants.{Done, NoMemory, ReadFault, WriteFault, TooLong}
-use Rattle.zac_flow.proofs.OneFault.{CardsAreOne, fault_once, fits_or_fault, short_card}
+use Rattle.zac_flow.proofs.OneFault.{short_card}
+
+-- what is known of the faults of cards and sources
+pub record FaultsAreOne : Type 0 where
+  pub one : (i : Inputs) (f g : Fault) → IsFaultOf i f → IsFaultOf i g → f ≡ g
+  pub none : (i : Inputs) (a : Architecture) (p : Program) (f : Fault) → AreReadAs i a p → IsWithinLimits p → qubit_count p.statements ≤ storage_count a → IsFaultOf i f → ⊥
 
 -- what a shelf tells of a card is what is given
 same_card : (files : Option NamedFiles) (word : List ℕ) (c d : CardInput) → HasCard files word c → GivesCard files word d → d ≡ c
@@ -55,10 +60,10 @@ long_or_short Tiny long short = long
 long_or_short Standard long short = long
 long_or_short (Text b) long short = omega (arith, long, short)
 
-module _ (cards : CardsAreOne) (files : Option NamedFiles) (card source : List ℕ) where
+module _ (law : FaultsAreOne) (files : Option NamedFiles) (card source : List ℕ) where
   -- what compiles has no fault
   done_or_fault : (old new : Option (List ℕ)) → WritesProgram files (Compile card source) old new → (i : Inputs) → HasInputs files card source i → (g : Fault) → IsFaultOf i g → ⊥
-  done_or_fault old new wrote i on g h = fits_or_fault cards i c.card c.is.source is c.is.limits fits g h where
+  done_or_fault old new wrote i on g h = law.none i c.card c.is.source g is c.is.limits fits h where
     c : CompilesTo wrote.compiles.0 wrote.program
     c = wrote.compiles.2
 
@@ -96,7 +101,7 @@ module _ (cards : CardsAreOne) (files : Option NamedFiles) (card source : List �
   -- behind a card that is too long every fault but want of memory says so
   long_behind : (c : CardInput) → HasCard files card c → IsLongCard c → (f : Fault) → (j : Inputs) × Gives files (Compile card source) j × IsFaultOf j f → ⊥
   long_behind c on long f h =
-      long_or_short c long (subst IsShortCard (same_card files card c h.0.card on h.1.0) (short_card cards h.0 f h.2))
+      long_or_short c long (subst IsShortCard (same_card files card c h.0.card on h.1.0) (short_card h.0 f h.2))
 
   of_long : (c : CardInput) → HasCard files card c → IsLongCard c → (f : Fault) → MeansOfCompiling files card source f →
       status_of f ≢ ReadFault → status_of f ≢ WriteFault → (status_of f ≡ TooLong) ⊎ (status_of f ≡ NoMemory)
@@ -114,15 +119,15 @@ module _ (cards : CardsAreOne) (files : Option NamedFiles) (card source : List �
 same_words : (c d s t : List ℕ) → Some (Compile c s) ≡ Some (Compile d t) → (c ≡ d) × (s ≡ t)
 same_words c d s t e = ((cc), (cc))
 
-module _ (cards : CardsAreOne) (files : Option NamedFiles) where
+module _ (law : FaultsAreOne) (files : Option NamedFiles) where
   pub done_exact : (command : Command) (old new : Option (List ℕ)) → Does files (Some command) old new → IsExact files (Some command) Done
   done_exact (Compile card source) old new wrote = record {
     long_card = λ d t c e on long.
         let p = same_words card d source t e in
-        absurd (done_or_long cards files card source old new wrote c (subst (λ (x : List ℕ). HasCard files x c) (sym p.0) on) long);
+        absurd (done_or_long law files card source old new wrote c (subst (λ (x : List ℕ). HasCard files x c) (sym p.0) on) long);
     refused = λ d t i g e on h.
         let p = same_words card d source t e in
-        absurd (done_or_fault cards files card source old new wrote i
+        absurd (done_or_fault law files card source old new wrote i
         (subst (λ (x : List ℕ). HasInputs files card x i) (sym p.1) (subst (λ (x : List ℕ). HasInputs files x t i) (sym p.0) on)) g h);
     accepted = λ d t i a p e on is limits fits. inl refl;
     made = λ n k e. inl refl;
@@ -158,24 +163,24 @@ module _ (cards : CardsAreOne) (files : Option NamedFiles) where
 
     long_card : (c : CardInput) → HasCard files card c → IsLongCard c → (status ≡ TooLong) ⊎ (status ≡ NoMemory)
     long_card c on long =
-        elim (of_long cards files card source c on long f means calm_read calm_write) [
+        elim (of_long law files card source c on long f means calm_read calm_write) [
           | inl too_long ↦ inl (is ∙ too_long)
           | inr memory ↦ inr (is ∙ memory)
         ]
 
     refused : (i : Inputs) → HasInputs files card source i → (g : Fault) → IsFaultOf i g → (status ≡ status_of g) ⊎ (status ≡ NoMemory)
     refused i on g h =
-        elim (of_files cards files card source i on (short_card cards i g h) f means calm_read calm_write) [
+        elim (of_files law files card source i on (short_card i g h) f means calm_read calm_write) [
           | inl memory ↦ inr (is ∙ ap status_of memory)
-          | inr own ↦ inl (is ∙ ap status_of (fault_once cards i f g own h))
+          | inr own ↦ inl (is ∙ ap status_of (law.one i f g own h))
         ]
 
     accepted : (i : Inputs) → HasInputs files card source i → (a : Architecture) (p : Program) → AreReadAs i a p → IsWithinLimits p →
         qubit_count p.statements ≤ storage_count a → (status ≡ Done) ⊎ (status ≡ NoMemory)
     accepted i on a p reading limits fits =
-        elim (of_files cards files card source i on reading.short.card f means calm_read calm_write) [
+        elim (of_files law files card source i on reading.short.card f means calm_read calm_write) [
           | inl memory ↦ inr (is ∙ ap status_of memory)
-          | inr own ↦ absurd (fits_or_fault cards i a p reading limits fits f own)
+          | inr own ↦ absurd (law.none i a p f reading limits fits own)
         ]
 
   refused_make : (n k : ℕ) (f : Fault) (status : Status) → status ≡ status_of f → (f ≡ Write) ⊎ (f ≡ Memory) → status ≢ WriteFault → IsExact files (Some (Make n k)) status

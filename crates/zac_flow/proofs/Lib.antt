@@ -1,5 +1,8 @@
 pub mod Reading
+pub mod OneReading
+pub mod SomeReading
 pub mod OneFault
+pub mod SomeFault
 pub mod Telling
 pub mod Meaning
 pub mod Naming

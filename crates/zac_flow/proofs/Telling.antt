@@ -1,12 +1,11 @@
 -- Parts that are written one behind the other.
 use Rattle.std.proofs.Common.{◌≡◌, ℕ, suc, ◌+◌, ◌<◌, List, ◌∷◌, ◌++◌, map, drop, get_or, length, sym, ap, ◌∙◌, subst, append_assoc, drop-cons, arith, Option}
-use Rattle.zac_io.specs.Outside.{Appends, AppendsPrefix}
-use Rattle.zac_io.proofs.Growth.{Appends-append, AppendsPrefix-append, AppendsPrefix-after}
+use Rattle.zac_io.specs.Outside.{Appends, AppendsPrefix, WritesAddUp}
 use Rattle.zair_text.specs.Lines.{joined}
 use Rattle.zac_flow.specs.Parts.{part_bytes}
 use Rattle.zac_flow.specs.declared.part.Part.{Part}
 
-module _ (parts : List Part) (k : ℕ) (d : Part) (less : k < length parts) (said : List ℕ) (is : said ++ joined (map part_bytes (drop k parts)) ≡ joined (map part_bytes parts)) where
+module _ (law : WritesAddUp) (parts : List Part) (k : ℕ) (d : Part) (less : k < length parts) (said : List ℕ) (is : said ++ joined (map part_bytes (drop k parts)) ≡ joined (map part_bytes parts)) where
   next : drop k parts ≡ get_or parts k d ∷ drop (k + 1) parts
   next = let after : suc k ≡ k + 1 = omega arith in drop-cons parts k d less ∙ ap (λ (n : ℕ). get_or parts k d ∷ drop n parts) after
 
@@ -19,11 +18,11 @@ module _ (parts : List Part) (k : ℕ) (d : Part) (less : k < length parts) (sai
   said_more w a b h i = (
     said ++ part_bytes (get_or parts k d),
     append_assoc said (part_bytes (get_or parts k d)) (joined (map part_bytes (drop (k + 1) parts))) ∙ all,
-    Appends-append w a b said (part_bytes (get_or parts k d)) h i,
+    law.both w a b said (part_bytes (get_or parts k d)) h i,
   )
 
   pub said_in_part : (w a b : Option (List ℕ)) → Appends w a said → AppendsPrefix a b (part_bytes (get_or parts k d)) → AppendsPrefix w b (joined (map part_bytes parts))
   said_in_part w a b h i =
       subst (λ (l : List ℕ). AppendsPrefix w b l) all
-      (AppendsPrefix-after w a b said (part_bytes (get_or parts k d) ++ joined (map part_bytes (drop (k + 1) parts))) h
-      (AppendsPrefix-append a b (part_bytes (get_or parts k d)) (joined (map part_bytes (drop (k + 1) parts))) i))
+      (law.behind w a b said (part_bytes (get_or parts k d) ++ joined (map part_bytes (drop (k + 1) parts))) h
+      (law.front a b (part_bytes (get_or parts k d)) (joined (map part_bytes (drop (k + 1) parts))) i))

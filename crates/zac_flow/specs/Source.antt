@@ -1,30 +1,24 @@
 -- Which sources are accepted, and which are refused where.
-use Rattle.std.specs.Prelude.{◌≡◌, ◌≢◌, ℕ, ◌<◌, ◌⊎◌, List, [], ◌∷◌, ◌++◌, length}
+use Rattle.std.specs.Prelude.{◌≡◌, ◌≢◌, ℕ, ◌<◌, ◌⊎◌, List, [], length}
 use Rattle.qasm_lex.specs.Cuts.{AreTokensOf, IsLexFault}
 use Rattle.qasm_lex.specs.Lexed.{Lexed}
-use Rattle.qasm_form.specs.Statements.{IsStatement, IsSyntaxFault}
+use Rattle.qasm_form.specs.Statements.{FallInto, IsStatement, IsSyntaxFault}
 use Rattle.qasm_form.specs.Symbols.{Lexeme, lexemes_of}
 use Rattle.qasm_form.specs.declared.stmt.Stmt.{Stmt}
-use Rattle.qasm_names.specs.Accepted.{IsAdmissible, Program}
+use Rattle.qasm_names.specs.Accepted.{AreAdmissible, Program}
 use Rattle.qasm_names.specs.Environment.{environment}
 use Rattle.qasm_names.specs.Header.{IsHeader}
 use Rattle.qasm_names.specs.Refusals.{IsFirstRefusal}
 use Rattle.zac_flow.specs.declared.source_fault.Refusal.{Refusal}
 use Rattle.zac_flow.specs.declared.source_fault.Refusal.TheVariants as kind
 
--- The tokens from one place up to another are these statements, none of which is refused behind the header and those
--- before it.
-abbrev pub AreAccepted : List Stmt → List Lexeme → List Stmt → ℕ → List Stmt → ℕ → Type 0
-AreAccepted header tokens before from [] to = to ≡ from
-AreAccepted header tokens before from (s ∷ ss) to =
-    (next : ℕ) × IsStatement tokens from s next × IsAdmissible header before s × AreAccepted header tokens (before ++ s ∷ []) next ss to
-
--- The source has these tokens, the program's header is the header, and from the first token up to a place they are the
--- program's statements, so accepted.
+-- The source has these tokens, the program's header is the header, from the first token up to a place the tokens fall into
+-- the program's statements, and none of these is refused behind the header and those before it.
 pub record IsAcceptedTo (source : List ℕ) (lexed : Lexed) (program : Program) (to : ℕ) : Type 0 where
   pub tokens : AreTokensOf source lexed
   pub header : IsHeader program.header
-  pub statements : AreAccepted program.header (lexemes_of source lexed.tokens) [] 0 program.statements to
+  pub falls : FallInto (lexemes_of source lexed.tokens) 0 program.statements to
+  pub admissible : AreAdmissible program.header [] program.statements
 
 -- The source's tokens, from the first to the last, are the program's statements, so accepted, and there is one at least.
 pub record IsAccepted (source : List ℕ) (program : Program) : Type 0 where

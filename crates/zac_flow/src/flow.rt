@@ -9,13 +9,14 @@ ghost use Rattle.zac_flow.specs.Requests.{named, IsInRange};
 ghost use Rattle.zac_flow.specs.Words.{Command, Name, Compile, Make};
 
 use crate::inputs::inputs_from;
+use crate::laws::one_fault;
 use crate::make::write_made;
 use crate::stages::{program_from, write_text};
 use crate::status::{Fault, Status};
 use crate::words::{Request, read_words};
 use std::alloc::Global;
-use zac_archfile::card_or_one_fault;
 use zac_io::{Shelf, Sink};
+use zair_text::laws::one_text_one_program;
 
 /// Tells the refusal, and answers its status.
 fn refuse<E: Sink>(fault: Fault, err: &mut E) -> Status
@@ -42,6 +43,7 @@ fn compile_files<S: Shelf, K: Sink>(
     ensures strays { StraysRise (S.files shelf.old) (Some (Compile card.now source.now)) (S.strays shelf.old) (S.strays shelf.new) }
     ensures same_files { S.files shelf.new ≡ S.files shelf.old }
 {
+    one_text_one_program();
     let inputs = inputs_from(alloc, shelf, card, source)?;
     let program = program_from(alloc, &inputs)?;
     write_text(alloc, &program, out)
@@ -89,7 +91,7 @@ fn answer<S: Shelf, K: Sink, E: Sink>(
     ensures strays { StraysRise (S.files shelf.old) (option_map named request.entry) (S.strays shelf.old) (S.strays shelf.new) }
     ensures same_files { S.files shelf.new ≡ S.files shelf.old }
 {
-    card_or_one_fault();
+    one_fault();
     match request {
         None => refuse(Fault::Usage, err),
         Some(request) => match carry_out(alloc, request, shelf, out) {

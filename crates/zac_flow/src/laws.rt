@@ -1,14 +1,26 @@
 //! What the words of a command name, and what "accepted", "refused" and "fault" mean of its card and its source, as laws.
 
-ghost use Rattle.std.specs.Prelude.{◌≡◌, ℕ, List, Option};
+ghost use Rattle.std.specs.Prelude.{◌≡◌, ℕ, ◌≤◌, ◌⊎◌, List, Option};
+ghost use Rattle.zac_arch.specs.Architecture.{Architecture, storage_count};
+ghost use Rattle.zac_gates.specs.Ops.{NativeCircuit};
+ghost use Rattle.qasm_expand.specs.Expansion.{IsExpansion, IsWithinLimits, PassesFirst};
+ghost use Rattle.qasm_expand.specs.Items.{qubit_count};
+ghost use Rattle.qasm_expand.specs.declared.fault.LimitKind.{LimitKind};
 ghost use Rattle.qasm_names.specs.Accepted.{Program};
+ghost use Rattle.zac_flow.specs.Compiled.{AreReadAs};
 ghost use Rattle.zac_flow.specs.Faults.{IsFaultOf};
+ghost use Rattle.zac_flow.specs.Inputs.{IsShortCard};
 ghost use Rattle.zac_flow.specs.Source.{IsAccepted, IsRefusedAt};
 ghost use Rattle.zac_flow.specs.Words.{Command, Name};
 ghost use Rattle.zac_flow.specs.declared.inputs.Inputs.{Inputs};
 ghost use Rattle.zac_flow.specs.declared.source_fault.Refusal.{Refusal};
 ghost use Rattle.zac_flow.specs.declared.status.Fault.{Fault};
 
+use qasm_expand::each_program_expands;
+use qasm_expand::laws::one_limit;
+use qasm_lex::laws::tokens_or_one_fault;
+use qasm_parse::laws::{each_token_is_seen, statement_or_one_fault, tokens_fall_in_one_way};
+use qasm_scope::{one_header, one_judgement, tokens_go_to_the_end_or_stop};
 use zac_archfile::card_or_one_fault;
 
 /// All words name a command or none, and one alone.
@@ -18,17 +30,43 @@ pub fn words_name_one_command()
         → Name words other → command ≡ other }
 {}
 
-/// A source has one answer at most: it is accepted as one program, or it is refused with one kind at one
-/// offset. And a card and a source have one fault at most, of all that they can have.
+/// A source has one answer: it is accepted as one program with a native list and within the limits, or it is accepted as one and
+/// passes a limit first, or it is refused with one kind at one offset.
 pub fn one_answer()
+    ensures some { (source : List ℕ)
+        → ((program : Program) × (circuit : NativeCircuit) × IsAccepted source program × IsWithinLimits program × IsExpansion program circuit)
+        ⊎ ((program : Program) × (kind : LimitKind) × (count : ℕ) × IsAccepted source program × PassesFirst program kind count)
+        ⊎ ((kind : Refusal) × (at : ℕ) × IsRefusedAt source kind at) }
     ensures one_program { (source : List ℕ) (program other : Program) → IsAccepted source program
         → IsAccepted source other → program ≡ other }
     ensures one_refusal { (source : List ℕ) (k l : Refusal) (at other : ℕ) → IsRefusedAt source k at
         → IsRefusedAt source l other → (k ≡ l) × (at ≡ other) }
     ensures not_both { (source : List ℕ) (program : Program) (k : Refusal) (at : ℕ) → IsAccepted source program
         → ¬ IsRefusedAt source k at }
+{
+    tokens_or_one_fault();
+    each_token_is_seen();
+    statement_or_one_fault();
+    tokens_fall_in_one_way();
+    one_header();
+    one_judgement();
+    tokens_go_to_the_end_or_stop();
+    each_program_expands();
+    one_limit();
+}
+
+/// A source and a card within its limit have one fault, of all that they can have, or they are read, pass no limit and fit the
+/// storage, and never both.
+pub fn one_fault()
+    ensures some { (inputs : Inputs) → IsShortCard inputs.card
+        → ((card : Architecture) × (program : Program) × AreReadAs inputs card program × IsWithinLimits program
+        × (qubit_count program.statements ≤ storage_count card)) ⊎ ((fault : Fault) × IsFaultOf inputs fault) }
     ensures one_fault { (inputs : Inputs) (fault other : Fault) → IsFaultOf inputs fault
         → IsFaultOf inputs other → fault ≡ other }
+    ensures not_both { (inputs : Inputs) (card : Architecture) (program : Program) (fault : Fault) → AreReadAs inputs card program
+        → IsWithinLimits program → qubit_count program.statements ≤ storage_count card → ¬ IsFaultOf inputs fault }
 {
     card_or_one_fault();
+    one_answer();
+    one_limit();
 }

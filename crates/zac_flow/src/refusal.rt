@@ -11,7 +11,7 @@ use crate::source_fault::limit_name;
 use crate::status::Fault;
 use itoa::Buffer;
 use zac_archfile::CardFault;
-use zac_io::{Failed, Sink};
+use zac_io::{Failed, Sink, writes_add_up};
 
 impl Fault {
     /// Writes the line of the fault. It takes no memory.
@@ -124,6 +124,7 @@ fn tell_parts<E: Sink>(parts: &[Part], err: &mut E) -> Result<(), Failed>
     ensures line { Writes (E.written err.old) (E.written err.new) (joined (map part_bytes parts.now)) result }
     ensures cause { HasCause result (E.faults err.old) (E.faults err.new) }
 {
+    writes_add_up();
     for part in parts.iter() {
         tell_part(*part, err)?;
     }

@@ -10,7 +10,9 @@ ghost use Rattle.zac_flow.specs.Source.{IsAccepted, IsAcceptedTo};
 
 use crate::source_fault::Refusal;
 use crate::status::Fault;
+use qasm_lex::laws::tokens_are_few;
 use qasm_lex::{LexFault, Tokens, lex};
+use qasm_parse::laws::each_token_is_seen;
 use qasm_parse::{Stmt, SyntaxFault, statement};
 use qasm_scope::{Scope, ScopeFault};
 use std::alloc::Global;
@@ -23,6 +25,7 @@ pub fn read_source(alloc: Global, source: &[u8]) -> Result<Scope, Fault>
     ensures ok { IfOk result (λ program. IsAccepted source.now program) }
     ensures fault { IfErr result (IsRefusalOrWant source.now) }
 {
+    each_token_is_seen();
     let tokens = tokens_of(alloc, source)?;
     let scope = read_statements(alloc, source, &tokens)?;
     if scope.statements().is_empty() {
@@ -57,6 +60,7 @@ fn read_statements(alloc: Global, source: &[u8], tokens: &Tokens) -> Result<Scop
     ensures ok { IfOk result (λ program. IsAcceptedTo source.now tokens.now program (length tokens.now.tokens)) }
     ensures fault { IfErr result (IsRefusalOrWant source.now) }
 {
+    tokens_are_few();
     let count = tokens.all().len() as u32;
     let mut scope = Scope::new(alloc)?;
     let mut place = 0;
@@ -81,6 +85,7 @@ fn read_statement(
     ensures within { IfOk result (λ next. (place < next) × (next ≤ length tokens.now.tokens)) }
     ensures fault { IfErr result (IsRefusalOrWant source.now) }
 {
+    each_token_is_seen();
     let (statement, next) = statement_at(alloc, source, tokens, place)?;
     scope.check(&statement)?;
     scope.admit(statement)?;

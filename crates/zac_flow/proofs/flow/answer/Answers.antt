@@ -4,8 +4,7 @@ use Rattle.zac_flow.specs.Faults.{Means, status_of}
 use Rattle.zac_flow.specs.Requests.{named}
 use Rattle.zac_flow.specs.declared.status.Fault.TheVariants.{Usage}
 use Rattle.zac_flow.specs.declared.status.Status.TheVariants.{ReadFault, WriteFault}
-use Rattle.zac_flow.proofs.Ending.{done_exact, refused_exact, none_exact}
-use Rattle.zac_flow.proofs.OneFault.{CardsAreOne}
+use Rattle.zac_flow.proofs.Ending.{FaultsAreOne, done_exact, refused_exact, none_exact}
 use Rattle.zac_flow.proofs.flow.answer.Goals as goal
 
 pub returns-in-None-clause-refused : goal.returns-in-None-clause-refused
@@ -15,31 +14,28 @@ returns-in-None-clause-refused g c =
 
 pub returns-in-None-clause-exact : goal.returns-in-None-clause-exact
 returns-in-None-clause-exact g c =
-    let law = c.card_or_one_fault.ensures in
-    let cards : CardsAreOne = record { card = law.one_card; fault = law.one_fault; not_both = law.not_both } in
-    rw c.in-None.is (λ calm_shelf calm_sink. none_exact cards (g.S.Shelf.files c.args.shelf.now) c.refuse.result)
+    let law : FaultsAreOne = record { one = c.one_fault.ensures.one_fault; none = c.one_fault.ensures.not_both } in
+    rw c.in-None.is (λ calm_shelf calm_sink. none_exact law (g.S.Shelf.files c.args.shelf.now) c.refuse.result)
 
 pub returns-in-None-clause-strays : goal.returns-in-None-clause-strays
 returns-in-None-clause-strays g c = rw c.in-None.is (record { rise = λ lacks. absurd lacks; stay = λ first second. refl; either = inl refl })
 
 pub returns-in-Ok-clause-exact : goal.returns-in-Ok-clause-exact
 returns-in-Ok-clause-exact g c =
-    let law = c.card_or_one_fault.ensures in
-    let cards : CardsAreOne = record { card = law.one_card; fault = law.one_fault; not_both = law.not_both } in
+    let law : FaultsAreOne = record { one = c.one_fault.ensures.one_fault; none = c.one_fault.ensures.not_both } in
     let files = g.S.Shelf.files c.args.shelf.now in
     let does : Does files (Some (named c.in-Some.request)) (g.K.Sink.written c.args.out.now) (g.K.Sink.written c.carry_out.new.out) = search rules in
-    rw c.in-Some.is (λ calm_shelf calm_sink. done_exact cards files (named c.in-Some.request) (g.K.Sink.written c.args.out.now) (g.K.Sink.written c.carry_out.new.out) does)
+    rw c.in-Some.is (λ calm_shelf calm_sink. done_exact law files (named c.in-Some.request) (g.K.Sink.written c.args.out.now) (g.K.Sink.written c.carry_out.new.out) does)
 
 pub returns-in-Err-clause-exact : goal.returns-in-Err-clause-exact
 returns-in-Err-clause-exact g c =
-    let law = c.card_or_one_fault.ensures in
-    let cards : CardsAreOne = record { card = law.one_card; fault = law.one_fault; not_both = law.not_both } in
+    let law : FaultsAreOne = record { one = c.one_fault.ensures.one_fault; none = c.one_fault.ensures.not_both } in
     let files = g.S.Shelf.files c.args.shelf.now in
     let fault = c.in-Err.fault in
     let same : c.refuse-in-Err.result ≡ status_of fault = search rules in
     let means : Means files (Some (named c.in-Some.request)) fault = search rules in
     let reads : RisesAt ReadFault (status_of fault) (g.S.Shelf.faults c.args.shelf.now) (g.S.Shelf.faults c.carry_out.new.shelf) = search rules in
     let writes : RisesAt WriteFault (status_of fault) (g.K.Sink.faults c.args.out.now) (g.K.Sink.faults c.carry_out.new.out) = search rules in
-    rw c.in-Some.is (λ calm_shelf calm_sink. refused_exact cards files (named c.in-Some.request) fault c.refuse-in-Err.result same means
+    rw c.in-Some.is (λ calm_shelf calm_sink. refused_exact law files (named c.in-Some.request) fault c.refuse-in-Err.result same means
     (λ e. calm_shelf (reads.rises (sym same ∙ e)))
     (λ e. calm_sink (writes.rises (sym same ∙ e))))

@@ -1,18 +1,37 @@
-use Rattle.zac_flow.proofs.OneFault.{fault_once}
-use Rattle.zac_flow.proofs.Reading.{accepted_once, accepted_or_refused, refused_once}
+use Rattle.zac_flow.proofs.OneReading.{SourcesAreOne, accepted_once, accepted_or_refused, refused_once}
+use Rattle.zac_flow.proofs.SomeReading.{SourcesAreSome, ProgramsAreSome, answered}
 use Rattle.zac_flow.proofs.laws.one_answer.Goals as goal
 
-pub returns-clause-one_program : goal.returns-clause-one_program
-returns-clause-one_program c = accepted_once
-
-pub returns-clause-one_refusal : goal.returns-clause-one_refusal
-returns-clause-one_refusal c = refused_once
-
-pub returns-clause-not_both : goal.returns-clause-not_both
-returns-clause-not_both c = λ source statements k at accepted refused. accepted_or_refused source statements accepted k at refused
-
-pub returns-clause-one_fault : goal.returns-clause-one_fault
-returns-clause-one_fault c =
-    let law = c.card_or_one_fault.ensures in
-    λ inputs fault other left right.
-    fault_once (record { card = law.one_card; fault = law.one_fault; not_both = law.not_both }) inputs fault other left right
+pub returns : goal.returns
+returns c =
+    let tokens = c.tokens_or_one_fault.ensures in
+    let statements = c.statement_or_one_fault.ensures in
+    let header = c.one_header.ensures in
+    let one : SourcesAreOne = record {
+      one_list = tokens.one_list;
+      one_lex_fault = tokens.one_fault;
+      not_lexed = tokens.not_both;
+      one_statement = statements.one_statement;
+      one_fault = statements.one_fault;
+      not_both = statements.not_both;
+      one_way = c.tokens_fall_in_one_way.ensures;
+      one_header = header.one;
+      one_refusal = c.one_judgement.ensures.one_refusal;
+    } in
+    let sources : SourcesAreSome = record {
+      tokens = tokens.some;
+      seen = c.each_token_is_seen.ensures;
+      header = header.some;
+      end_or_stop = c.tokens_go_to_the_end_or_stop.ensures;
+    } in
+    let programs : ProgramsAreSome = record {
+      sound = header.sound;
+      expands = c.each_program_expands.ensures.some;
+      limit = c.one_limit.ensures.some;
+    } in
+    record {
+      some = answered sources programs;
+      one_program = accepted_once one;
+      one_refusal = refused_once one;
+      not_both = λ source program k at is refused. accepted_or_refused one source program is k at refused;
+    }

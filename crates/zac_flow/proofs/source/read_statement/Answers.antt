@@ -1,5 +1,4 @@
 use Rattle.std.proofs.Common.{arith}
-use Rattle.qasm_parse.proofs.LoopLemmas.{length-lexemes_of}
 use Rattle.zac_flow.proofs.Reading.{accepted_more}
 use Rattle.zac_flow.proofs.source.read_statement.Goals as goal
 
@@ -11,4 +10,4 @@ returns-clause-ok c =
 pub returns-clause-within : goal.returns-clause-within
 returns-clause-within c =
     let is = c.in_ok-statement.ensures.ok in
-    (omega (arith, is.goes_on), omega (arith, is.within, length-lexemes_of c.args.source.now c.args.tokens.now.tokens))
+    (omega (arith, is.goes_on), omega (arith, is.within, c.each_token_is_seen.ensures c.args.source.now c.args.tokens.now.tokens))

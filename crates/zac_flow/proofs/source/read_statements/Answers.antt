@@ -1,7 +1,6 @@
 use Rattle.std.proofs.Common.{ap, length, arith}
-use Rattle.qasm_parse.proofs.AnswerLemmas.{few_tokens}
 use Rattle.zac_flow.proofs.source.read_statements.Goals as goal
 
 pub overflow_cast-count : goal.overflow_cast-count
 overflow_cast-count c =
-    omega (arith, few_tokens 0 c.args.tokens.now.tokens c.args.tokens.now.source_length c.all.ensures.in_order, c.all.ensures.fits, ap length c.all.ensures.tokens)
+    omega (arith, c.tokens_are_few.ensures 0 c.args.tokens.now.tokens c.args.tokens.now.source_length c.all.ensures.in_order, c.all.ensures.fits, ap length c.all.ensures.tokens)
