@@ -25,8 +25,9 @@ pub fn one_line_one_instr(a: &Instr, b: &Instr, bytes: &[u8])
     ensures { a.now ≡ b.now }
 {}
 
-/// A text is that of one program alone: two lists of instructions with one text are one list, where their jobs have steps
-/// of their own AOD alone, as those of a program have, and their numbers are less than 2^64, as those of all types are.
+/// A text is that of one program alone: two lists of instructions with one text, each with the line of its tally, are
+/// one list, where their jobs have steps of their own AOD alone, as those of a program have, and their numbers are less
+/// than 2^64, as those of all types are.
 pub fn one_text_one_program()
     ensures { (a b : List Instr) → AreWritable a → AreWritable b → program_text a ≡ program_text b → a ≡ b }
 {}
