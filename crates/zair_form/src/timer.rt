@@ -12,6 +12,7 @@ use zac_arch::Card;
 
 /// Tells how long the steps of one instruction take, one after another. It remembers the last position of each row and each
 /// column, since a move takes the time of the greatest change from there.
+#[derive(Drop)]
 pub struct StepTimer {
     rows: [Option<u32>; 256],
     columns: [Option<u32>; 256],
