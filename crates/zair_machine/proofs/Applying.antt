@@ -12,7 +12,7 @@ use Rattle.zair_form.specs.declared.step.Dropped.{Dropped}
 use Rattle.zair_form.specs.declared.step.Step.TheVariants.{Move}
 use Rattle.zair_state.specs.declared.place.Place.{Place}
 use Rattle.zair_state.specs.declared.place.Place.TheVariants.{Trap, Held}
-use Rattle.zair_state.specs.State.{State, Beams, idle, beams_of}
+use Rattle.zair_state.specs.State.{State, Beams, EachCrossing, idle, beams_of}
 use Rattle.zair_state.specs.Legal.{Picks, Drops}
 use Rattle.zair_state.specs.Result.{after, after_catching, after_dropping, with_beams, without_beams}
 use Rattle.zair_state.specs.Invariant.{IsSound}
@@ -20,6 +20,7 @@ use Rattle.zair_machine.specs.Machine.{IsKept}
 use Rattle.zair_state.proofs.Membership.{all_from_contains}
 use Rattle.zair_state.proofs.BeamLists.{stays, among, found, length-without}
 use Rattle.zair_machine.proofs.AfterBeams.{length_with_beams}
+use Rattle.zair_machine.proofs.Noting.{Told}
 use Rattle.zair_state.proofs.Changing.{changes_of}
 
 unlisted_stays : (ids : List ℕ) (n : ℕ) → ¬ Contains ids n → list_any (λ id. eqb id n) ids ≡ false
@@ -68,9 +69,15 @@ pub set_same : (s : State) (aod : ℕ) (p p' : List Place) (r r' c c' : List Bea
 set_same s aod p p' r r' c c' e f g =
     ap (λ (x : List Place). set_to s aod x r c) e ∙ ap (λ (x : List Beam). set_to s aod p' x c) f ∙ ap (λ (x : List Beam). set_to s aod p' r' x) g
 
-pub kept_so : (a : Architecture) (s now next : State) → IsKept a s → IsSound a next → length next.places ≡ length s.places → now ≡ next → IsKept a now
-kept_so a s now next kept sound same e =
-    let there : IsKept a next = record { sound = sound; few = let few = kept.few in omega arith } in subst (IsKept a) (sym e) there
+pub kept_so : (a : Architecture) (s now next : State) (index index' : List ℕ) → IsKept a s index → IsSound a next → length next.places ≡ length s.places → length index' ≡ length index → Told next.places index' → now ≡ next → IsKept a now index'
+kept_so a s now next index index' kept sound same long told e =
+    let there : IsKept a next index' = record {
+      sound = sound;
+      few = let few = kept.few in omega arith;
+      all_traps = long ∙ kept.all_traps;
+      told = told;
+    } in
+    subst (λ (x : State). IsKept a x index') (sym e) there
 
 -- a legal move lists no more beams than the card allows
 module _ (a : Architecture) (s : State) (aod : ℕ) (rows columns : List Beam) (known : aod < length s.aods) (sound : IsSound a (after s (Move aod rows columns))) where
@@ -91,9 +98,9 @@ module _ (a : Architecture) (s : State) (aod : ℕ) (rows columns : List Beam) (
       omega (arith, length_with_beams columns [])
 
 -- what is written through a slice of the whole vector
-pub written_back : (n : ℕ) (xs ys : List Place) → length ys ≡ n → length xs ≡ length ys → take n (xs ++ drop (length xs) ys) ≡ xs
-written_back n xs ys e f =
-    ap (λ (l : List Place). take n (xs ++ l)) (drop_of_length-le ys (omega arith)) ∙ ap (take n) (append-nil xs) ∙ take_all n xs (omega arith)
+pub written_back : {X : Type 0} (n : ℕ) (xs ys : List X) → length ys ≡ n → length xs ≡ length ys → take n (xs ++ drop (length xs) ys) ≡ xs
+written_back {X} n xs ys e f =
+    ap (λ (l : List X). take n (xs ++ l)) (drop_of_length-le ys (omega arith)) ∙ ap (take n) (append-nil xs) ∙ take_all n xs (omega arith)
 
 -- the beams that are read at an AOD are its beams
 pub read_beams : (s : State) (aod : ℕ) (beams : Beams) → aod < length s.aods → beams ≡ get_or s.aods aod beams → beams ≡ beams_of s aod
@@ -104,3 +111,10 @@ few_added most listed on few le = omega (arith, length_with_beams listed on)
 
 pub few_on : (most : ℕ) (read on : List Beam) → read ≡ on → length on ≤ most → most ≤ 64 → length read ≤ 64
 few_on most read on e few le = let same : length read ≡ length on = ap length e in omega arith
+
+-- what is told of the crossings of beams, told of an AOD that has these beams
+pub told_of_aod : (X Y : Beams) (P : Beam → Beam → Type 0) (Q test : Type 0) → X ≡ Y → (test → EachCrossing X.rows X.columns P) × (EachCrossing X.rows X.columns P → test) → Q → (test → Q → EachCrossing Y.rows Y.columns P) × ((Q → EachCrossing Y.rows Y.columns P) → test)
+told_of_aod X Y P Q test e told here = (
+  λ t q. subst (λ (b : Beams). EachCrossing b.rows b.columns P) e (told.0 t),
+  λ h. told.1 (subst (λ (b : Beams). EachCrossing b.rows b.columns P) (sym e) (h here)),
+)

@@ -21,6 +21,7 @@ use Rattle.zair_state.specs.Legal.{AreOnce}
 use Rattle.zair_machine.specs.Machine.{IsKept, IsWrongHome}
 use Rattle.zair_state.specs.State.{Beams, idle, opening}
 use Rattle.zair_machine.proofs.Full.{same_trap_number}
+use Rattle.zair_machine.proofs.Noting.{home_at}
 use Rattle.zair_state.proofs.Picking.{NoneBelow, none_below_more, none_of_all, first_of_all}
 use Rattle.zair_state.proofs.Soundness.{opening_sound}
 
@@ -132,18 +133,20 @@ module _ (a : Architecture) (homes : List TrapId) where
   none_wrong_at_end k le right = none_of_all (IsWrongHome a homes) k (length homes) le (λ m h. slice_get_within homes m h.0 h.1) right
 
   -- where no home is wrong, the state at the begin is kept
-  opening_kept : KeepsRules a → ((q : ℕ) → ¬ IsWrongHome a homes q) → IsKept a (opening a homes)
-  opening_kept rules none =
+  opening_kept : (index : List ℕ) → KeepsRules a → ((q : ℕ) → ¬ IsWrongHome a homes q) → length index ≡ trap_count a → ((q : ℕ) (home : TrapId) → slice_get homes q ≡ Some home → slice_get index home.0 ≡ Some q) → IsKept a (opening a homes) index
+  opening_kept index rules none len told =
       let right : AreRight (length homes) = λ q lt. none q in
       let once : AreOnce (map (λ (h : TrapId). h.0) homes) = subst (λ (l : List TrapId). AreOnce (map (λ (h : TrapId). h.0) l)) (take_all (length homes) homes (omega arith)) (first_once (length homes) (omega arith) right) in
       let few = few_right (length homes) (omega arith) right in
       record {
         sound = opening_sound a homes (λ i d lt. omega (arith, in_storage (length homes) i d right lt lt, trap_count_is a rules)) once;
         few = omega (arith, few, storage_count_most a rules, length-map homes (λ (h : TrapId). Trap h));
+        all_traps = len;
+        told = λ q t at. told q t (home_at homes q t at);
       }
 
-  pub opened_kept : (places : List Place) (aods : List Beams) (f : Figures) (o : Option ℕ) → KeepsRules a → f ≡ a.figures → places ≡ map (λ (h : TrapId). Trap h) homes → aods ≡ replicate f.aods idle → IsLeastOf (IsWrongHome a homes) o → o ≡ None → IsKept a (record { places = places; aods = aods })
-  opened_kept places aods f o rules g p b told e =
+  pub opened_kept : (index : List ℕ) (places : List Place) (aods : List Beams) (f : Figures) (o : Option ℕ) → KeepsRules a → f ≡ a.figures → places ≡ map (λ (h : TrapId). Trap h) homes → aods ≡ replicate f.aods idle → IsLeastOf (IsWrongHome a homes) o → o ≡ None → length index ≡ trap_count a → ((q : ℕ) (home : TrapId) → slice_get homes q ≡ Some home → slice_get index home.0 ≡ Some q) → IsKept a (record { places = places; aods = aods }) index
+  opened_kept index places aods f o rules g p b told e len noted =
       let none : (q : ℕ) → ¬ IsWrongHome a homes q = subst (λ (x : Option ℕ). IsLeastOf (IsWrongHome a homes) x) e told in
       let idle_all : aods ≡ replicate a.figures.aods idle = b ∙ ap (λ (x : Figures). replicate x.aods idle) g in
-      rw (p, idle_all) (opening_kept rules none)
+      rw (p, idle_all) (opening_kept index rules none len noted)

@@ -11,3 +11,4 @@ pub mod Applying
 pub mod Together
 pub mod PairWrongs
 pub mod PairSites
+pub mod Noting

@@ -3,6 +3,7 @@
 ghost use Rattle.std.specs.Prelude.{◌≡◌, ◌<◌, length};
 ghost use Rattle.std.specs.List.{All};
 ghost use Rattle.zair_form.specs.declared.step.Step.TheVariants.{Activate, Move, Deactivate};
+ghost use Rattle.zair_machine.specs.Machine.{after_noting};
 ghost use Rattle.zair_state.specs.Legal.{IsLegal};
 ghost use Rattle.zair_state.specs.Result.{after, after_catching, after_dropping};
 
@@ -10,7 +11,7 @@ use crate::aod::Aod;
 use crate::beams::{with_all, without_all};
 use crate::machine::Machine;
 use zair_form::{Beam, Caught, Dropped, Step};
-use zair_state::{Place, legal_steps_keep_states_sound};
+use zair_state::{Place, drops_find_empty_traps, legal_steps_keep_states_sound};
 
 /// Puts each listed atom at the crossing that is listed with it.
 fn catch_all(places: &mut [Place], aod: u8, atoms: &[Caught])
@@ -33,6 +34,16 @@ fn drop_all(places: &mut [Place], atoms: &[Dropped])
 {
     for d in atoms {
         places[d.q as usize] = Place::Trap(d.trap);
+    }
+}
+
+/// Notes each listed atom at the trap that is listed with it.
+fn note_all(index: &mut [u32], atoms: &[Dropped])
+    requires { All (λ d. d.trap.0 < length index.old) atoms.now }
+    ensures { index.new ≡ after_noting atoms.now index.old }
+{
+    for d in atoms {
+        index[d.trap.0 as usize] = d.q;
     }
 }
 
@@ -72,11 +83,13 @@ impl<'a> Machine<'a> {
     {
         let _figures = self.card.figures();
         legal_steps_keep_states_sound(self.card);
+        drops_find_empty_traps(self.card);
         let beams = Aod {
             rows: without_all(rows, self.aods[aod as usize].rows()),
             columns: without_all(columns, self.aods[aod as usize].columns()),
         };
         drop_all(&mut self.places, atoms);
+        note_all(&mut self.index, atoms);
         self.aods[aod as usize] = beams;
     }
 

@@ -1,12 +1,13 @@
 //! The machine: a state that steps change.
 
-ghost use Rattle.std.specs.Prelude.{◌≡◌, ℕ, ◌<◌, ◌↔◌, ◌≢◌, IsTrue, IfErr, MatchOption, OnOk, length};
+ghost use Rattle.std.specs.Prelude.{◌≡◌, ℕ, ◌<◌, ◌↔◌, ◌≢◌, IsTrue, IfErr, MatchOption, OnOk, Some, length};
 ghost use Rattle.zac_arch.specs.Architecture.{StandsAt, IsLit};
 ghost use Rattle.zac_arch.specs.Distances.{IsFarther};
 ghost use Rattle.zair_state.specs.Faults.{active};
 ghost use Rattle.zair_state.specs.FirstFault.{IsFirstFault};
 ghost use Rattle.zair_state.specs.Legal.{IsLegal};
 ghost use Rattle.zair_state.specs.Result.{after};
+ghost use Rattle.zair_state.specs.declared.place.Place.TheVariants.{Trap};
 ghost use Rattle.zair_state.specs.State.{IsAt, EachCrossing, crossing, IsFreeOfOthers, IsClear, beams_of};
 
 use crate::aod::Aod;
@@ -25,6 +26,8 @@ pub struct Machine<'a> {
     pub(crate) card: &'a Card,
     pub(crate) places: Vec<Place>,
     pub(crate) aods: Vec<Aod>,
+    /// For each trap with an atom the qubit; of another trap any number.
+    pub(crate) index: Vec<u32>,
 }
 
 impl<'a> Model for Machine<'a> {
@@ -34,7 +37,7 @@ impl<'a> Model for Machine<'a> {
 
     ghost view = { λ m. record { card = m.card.now; state = record { places = m.places.items; aods = m.aods.items } } };
 
-    ghost invariant = { λ m. IsKept m.card.now (record { places = m.places.items; aods = m.aods.items }) };
+    ghost invariant = { λ m. IsKept m.card.now (record { places = m.places.items; aods = m.aods.items }) m.index.items };
 }
 
 /// Whether a point is farther than the reach from every crossing of an AOD: farther than that of the nearest row and
@@ -191,8 +194,53 @@ impl<'a> Machine<'a> {
         self.is_free(aod, p)
     }
 
-    /// The qubit at a place.
+    /// The qubit at a place: that of a trap by the index.
     pub(crate) fn atom_at(&self, place: Place) -> Option<u32>
+        ensures { MatchOption result ((q : ℕ) → ¬ IsAt self.now.state q place) (λ q. IsAt self.now.state q place) }
+    {
+        match place {
+            Place::Trap(t) => self.atom_in(t),
+            Place::Held { .. } => self.atom_held(place),
+        }
+    }
+
+    /// Whether a qubit is at a place.
+    fn is_at(&self, q: u32, place: Place) -> bool
+        ensures { IsTrue result ↔ IsAt self.now.state q place }
+    {
+        let _ = &self.card;
+        (q as usize) < self.places.len() && self.places[q as usize] == place
+    }
+
+    /// The number that the index has for a trap. It is the qubit there, if there is one.
+    fn noted(&self, t: TrapId) -> Option<u32>
+        ensures { (q : ℕ) → IsAt self.now.state q (Trap t) → result ≡ Some q }
+    {
+        let _ = &self.card;
+        if self.index.len() <= t.0 as usize {
+            return None;
+        }
+        Some(self.index[t.0 as usize])
+    }
+
+    /// The qubit that rests in a trap.
+    fn atom_in(&self, t: TrapId) -> Option<u32>
+        ensures { MatchOption result ((q : ℕ) → ¬ IsAt self.now.state q (Trap t)) (λ q. IsAt self.now.state q (Trap t)) }
+    {
+        match self.noted(t) {
+            None => None,
+            Some(q) => {
+                if self.is_at(q, Place::Trap(t)) {
+                    Some(q)
+                } else {
+                    None
+                }
+            }
+        }
+    }
+
+    /// The qubit at a place, looked for among all.
+    fn atom_held(&self, place: Place) -> Option<u32>
         ensures { MatchOption result ((q : ℕ) → ¬ IsAt self.now.state q place) (λ q. IsAt self.now.state q place) }
     {
         let _ = &self.card;

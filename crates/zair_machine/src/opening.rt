@@ -1,6 +1,8 @@
 //! The machine at the begin.
 
-ghost use Rattle.std.specs.Prelude.{◌≡◌, ℕ, IfOk, MatchResult, map, replicate};
+ghost use Rattle.std.specs.Prelude.{◌≡◌, ℕ, IfOk, MatchResult, Some, length, map, replicate, slice_get};
+ghost use Rattle.zac_arch.specs.Architecture.{trap_count};
+ghost use Rattle.zac_arch.specs.declared.place.TrapId.{TrapId};
 ghost use Rattle.zair_state.specs.Least.{IsLeastOf};
 ghost use Rattle.zair_machine.specs.Machine.{IsWrongHome, TellsHome};
 ghost use Rattle.zair_state.specs.State.{idle, opening};
@@ -51,6 +53,20 @@ fn idle_aods(alloc: Global, count: u8) -> Result<Vec<Aod>, Memory>
     Ok(aods)
 }
 
+/// For each trap of a card the qubit whose home it is, if there is one.
+fn index_of(alloc: Global, card: &Card, homes: &[TrapId]) -> Result<Vec<u32>, Memory>
+    requires { (q : ℕ) → ¬ IsWrongHome card.now homes.now q }
+    ensures len { IfOk result (λ index. length index.items ≡ trap_count card.now) }
+    ensures told { IfOk result (λ index. (q : ℕ) (home : TrapId) → slice_get homes.now q ≡ Some home → slice_get index.items home.0 ≡ Some q) }
+{
+    let _rules = card.figures();
+    let mut index = vec![in alloc; 0; card.traps() as usize]?;
+    for (q, home) in homes.iter().enumerate() {
+        index[home.0 as usize] = q as u32;
+    }
+    Ok(index)
+}
+
 impl<'a> Machine<'a> {
     /// The machine of a card at the begin: each qubit rests in its home, the trap at the place of its number in
     /// `homes`, and no AOD has a beam. It borrows the card.
@@ -66,8 +82,14 @@ impl<'a> Machine<'a> {
         if let Some(q) = first_wrong_home(alloc, card, homes)? {
             return Err(NewFault::Home { q });
         }
+        let index = index_of(alloc, card, homes)?;
         let places = at_rest(alloc, homes)?;
         let aods = idle_aods(alloc, card.figures().aods)?;
-        Ok(Machine { card, places, aods })
+        Ok(Machine {
+            card,
+            places,
+            aods,
+            index,
+        })
     }
 }

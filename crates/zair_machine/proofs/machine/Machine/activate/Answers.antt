@@ -1,4 +1,4 @@
-use Rattle.std.proofs.Common.{◌≡◌, ◌<◌, ◌≤◌, ◌∙◌, List, length, sym, ap, subst}
+use Rattle.std.proofs.Common.{◌≡◌, ◌<◌, ◌≤◌, ◌∙◌, List, length, refl, sym, ap, subst}
 use Rattle.std.specs.List.{All}
 use Rattle.zac_arch.specs.declared.card.Figures.{Figures}
 use Rattle.zair_form.specs.declared.step.Beam.{Beam}
@@ -11,6 +11,7 @@ use Rattle.zair_machine.specs.Machine.{Running}
 use Rattle.zair_state.specs.Legal.{IsLegal}
 use Rattle.zair_state.specs.Result.{after, after_catching, with_beams}
 use Rattle.zair_machine.proofs.Applying.{set_same, kept_so, written_back, read_beams, few_added, length_caught, picked_within}
+use Rattle.zair_machine.proofs.Noting.{told_caught}
 use Rattle.zair_machine.proofs.machine.Machine.activate.Goals as goal
 
 pub with_all-requires : goal.with_all-requires
@@ -49,8 +50,9 @@ invariant_of-self c =
     let next : State = after s step in
     let put : c.catch_all.new.places ≡ next.places = c.catch_all.ensures ∙ ap (λ (l : List Place). after_catching c.args.aod c.args.atoms.now l) c.deref_mut.ensures.value in
     let long : length next.places ≡ length s.places = length_caught c.args.aod c.args.atoms.now s.places in
-    kept_so c.self.inside.card.now s _ next c.self.invariant
-    (c.legal_steps_keep_states_sound.ensures.one s step c.self.invariant.sound legal) long
+    kept_so c.self.inside.card.now s _ next c.self.inside.index.items c.self.inside.index.items c.self.invariant
+    (c.legal_steps_keep_states_sound.ensures.one s step c.self.invariant.sound legal) long refl
+    (told_caught c.args.aod c.args.atoms.now s.places c.self.inside.index.items c.self.invariant.told)
     (set_same s c.args.aod _ next.places c.with_all.result.items _ c.with_all-2.result.items _
     (written_back c.self.inside.places.len c.catch_all.new.places s.places (sym (ap length c.deref_mut.ensures.value) ∙ c.deref_mut.ensures.len) (ap length put ∙ long) ∙ put)
     (c.with_all.ensures ∙ ap (with_beams c.args.rows.now) on)
