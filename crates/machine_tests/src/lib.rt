@@ -16,6 +16,8 @@ mod gates;
 #[cfg(test)]
 mod io;
 #[cfg(test)]
+mod keepings;
+#[cfg(test)]
 mod machines;
 #[cfg(test)]
 mod matchings;
