@@ -18,6 +18,8 @@ mod grouping;
 #[cfg(test)]
 mod io;
 #[cfg(test)]
+mod keepings;
+#[cfg(test)]
 mod machines;
 #[cfg(test)]
 mod matchings;

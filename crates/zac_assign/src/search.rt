@@ -1,6 +1,6 @@
 //! The search for the column of one more row, along pairs that cost just their prices.
 
-ghost use Rattle.std.specs.Prelude.{ℕ, ◌≡◌, ◌≢◌, ◌+◌, ◌<◌, ◌≤◌, ◌^◌, None, Some, false, length, IfSome, IfNone, IfOk, IsSome, OnOk, slice_index, vec_len};
+ghost use Rattle.std.specs.Prelude.{ℕ, ◌≡◌, ◌≢◌, ◌+◌, ◌<◌, ◌≤◌, ◌⊎◌, ◌^◌, None, Some, true, false, length, IfSome, IfNone, IfOk, IsSome, OnOk, slice_index, vec_len};
 ghost use Rattle.zac_assign.specs.Assignment.{cost_at};
 ghost use Rattle.zac_pairing.specs.Pairing.{mate, free_count};
 ghost use Rattle.zac_pairing.specs.Tree.{left_at};
@@ -37,8 +37,18 @@ impl Room {
     }
 }
 
-/// The nearest column that is not in the tree, if there is one.
-fn nearest(room: &Room) -> Option<u32>
+/// Whether a column is better than the best so far: it is nearer, or as near and has no row.
+fn is_better(best: Option<u32>, least: u32, distance: u32, has_row: bool) -> bool
+    ensures yes { result ≡ true → (best ≡ None) ⊎ (distance ≤ least) }
+    ensures no { result ≡ false → IsSome best × (least ≤ distance) }
+{
+    best.is_none() || distance < least || (distance == least && !has_row)
+}
+
+/// The nearest column that is not in the tree, if there is one. Of several it takes one that has no row, where there is
+/// one: there the search ends, in place of going on from row to row at the same distance.
+fn nearest(pairs: &Pairing, room: &Room) -> Option<u32>
+    requires rows_len { vec_len pairs.now.right ≡ vec_len room.now.distance }
     requires same_len { vec_len room.now.used ≡ vec_len room.now.distance }
     requires few { vec_len room.now.distance < 2 ^ 32 }
     ensures found { IfSome result (IsNearest room.now.used.items room.now.distance.items) }
@@ -48,9 +58,10 @@ fn nearest(room: &Room) -> Option<u32>
     let mut best = None;
     let mut least = u32::MAX;
     for column in 0..room.distance.len() {
-        if !room.used[column] && room.distance[column] <= least {
+        let distance = room.distance[column];
+        if !room.used[column] && is_better(best, least, distance, pairs.right[column].is_some()) {
             best = Some(column as u32);
-            least = room.distance[column];
+            least = distance;
         }
     }
     best
@@ -195,7 +206,7 @@ fn approach(
         ≡ cost_at costs.now (left_at room.now.steps.items result.from) result.right
         + slice_index fee.new result.right }
 {
-    let Some(column) = nearest(room) else {
+    let Some(column) = nearest(pairs, room) else {
         unreachable!()
     };
     let by = room.distance[column as usize] - raised;

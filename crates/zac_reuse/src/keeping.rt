@@ -22,7 +22,8 @@ pub struct Kept {
 /// twice, and as many as can be. Of several greatest sets it takes one. The stages are those of the circuit. The only
 /// error is that memory ran out.
 ///
-/// Time and memory grow with the gates of the two pulses alone, but for a factor of at most their number's logarithm.
+/// The time grows with the gates of the two pulses, times at most the logarithm of their number, and with nothing else of
+/// the circuit.
 pub fn keep(alloc: Global, circuit: &Circuit, stages: &Stages<'_>, t: u32) -> Result<Kept, Memory>
     requires circuit { stages.now.circuit ≡ circuit.now }
     requires pulses { t + 1 < length stages.now.pairs }
