@@ -23,13 +23,15 @@ class Card:
     """The traps of a card by number, storage first, and then two for each site, the left one first."""
 
     def __init__(self, card):
-        self.figures, self.points = card, []
+        self.figures, self.points, self.zones, zones = card, [], [], 0
         for kind in ("storage", "entangling"):
             for zone in card[kind]:
                 for row in range(zone["rows"]):
                     for column in range(zone["columns"]):
                         x, y = zone["x"] + column * zone["dx"], zone["y"] + row * zone["dy"]
                         self.points += [(x, y)] + ([(x + zone["pair"], y)] if kind == "entangling" else [])
+                self.zones += [zones] * (len(self.points) - len(self.zones))
+                zones += 1
             if kind == "storage":
                 self.storage = len(self.points)
         self.sites = (len(self.points) - self.storage) // 2
@@ -62,15 +64,106 @@ def built_in(name):
         return file.read()
 
 
-def flight(card, q, source, target):
-    (x, y), (u, v) = card.points[source], card.points[target]
-    steps = [
-        {"step": "activate", "rows": [[0, y]], "columns": [[0, x]], "atoms": [[q, 0, 0]]},
-        {"step": "move", "rows": [[0, v]], "columns": [[0, u]]},
-        {"step": "deactivate", "rows": [0], "columns": [0], "atoms": [[q, target]]},
-    ]
-    duration = card.figures["activate"] + card.move_time(abs(x - u), abs(y - v)) + card.figures["deactivate"]
-    return {"type": "rearrangeJob", "aod": 0, "steps": steps}, duration
+def order(values):
+    """How two values stand to one another: less, equal or greater."""
+    return (values[0] > values[1]) - (values[0] < values[1])
+
+
+class Move:
+    """The atom of a qubit goes from one trap to another."""
+
+    def __init__(self, card, q, source, target):
+        self.q, self.target = q, target
+        self.source_at, self.target_at = card.points[source], card.points[target]
+        self.zones = card.zones[source], card.zones[target]
+        self.distance = sum(abs(a - b) for a, b in zip(self.source_at, self.target_at))
+
+    def fits(self, other):
+        """The two are compatible: from one zone to one zone, and on each axis the sources compare as the targets do."""
+        axes = range(2)
+        return self.zones == other.zones and all(
+            order((self.source_at[k], other.source_at[k])) == order((self.target_at[k], other.target_at[k])) for k in axes
+        )
+
+
+def groups(card, moves):
+    """The moves of a phase by first fit, the farthest first."""
+    found = []
+    for move in sorted(moves, key=lambda m: (-m.distance, m.q)):
+        for group in found:
+            columns, rows = (len({m.source_at[k] for m in group + [move]}) for k in range(2))
+            if all(move.fits(m) for m in group) and rows <= card.figures["rows"] and columns <= card.figures["columns"]:
+                group.append(move)
+                break
+        else:
+            found.append([move])
+    return found
+
+
+def job(card, group):
+    """The steps of a group: the rows are loaded one after another, all fly, and the rows are unloaded one after another; what
+    isn't at its place is parked beside it."""
+    park = card.figures["park"]
+    rows = sorted({(m.source_at[1], m.target_at[1]) for m in group})
+    columns = sorted({(m.source_at[0], m.target_at[0]) for m in group})
+    row_of = {source: i for i, (source, _) in enumerate(rows)}
+    column_of = {source: j for j, (source, _) in enumerate(columns)}
+    atoms = [{} for _ in rows]
+    for m in group:
+        atoms[row_of[m.source_at[1]]][column_of[m.source_at[0]]] = m
+    steps, loaded, held = [], [], {}
+
+    def move(side, exact_row, row):
+        """All active beams move: this row to its place, if there is one, and the columns to serve a row."""
+        steps.append(
+            {
+                "step": "move",
+                "rows": [[i, rows[i][side] + (0 if i == exact_row else park)] for i in loaded],
+                "columns": [[j, columns[j][side] + (0 if j in atoms[row] else park)] for j in sorted(held)],
+            }
+        )
+
+    for i, row in enumerate(atoms):
+        fresh = [j for j in sorted(row) if j not in held]
+        steps.append(
+            {
+                "step": "activate",
+                "rows": [[i, rows[i][0]]],
+                "columns": [[j, columns[j][0]] for j in fresh],
+                "atoms": [[row[j].q, i, j] for j in sorted(row)],
+            }
+        )
+        loaded.append(i)
+        held.update({j: i for j in row})
+        if i + 1 < len(rows):
+            move(0, None, i + 1)
+    move(1, 0, 0)
+    for i, row in enumerate(atoms):
+        last = sorted(j for j in held if held[j] == i)
+        steps.append({"step": "deactivate", "rows": [i], "columns": last, "atoms": [[row[j].q, row[j].target] for j in sorted(row)]})
+        loaded.remove(i)
+        for j in last:
+            del held[j]
+        if i + 1 < len(rows):
+            move(1, i + 1, i + 1)
+    return {"type": "rearrangeJob", "aod": 0, "steps": steps}, duration(card, steps)
+
+
+def duration(card, steps):
+    """How long the steps take: a move takes the move time of the greatest changes of its columns and rows."""
+    last, total = {"rows": {}, "columns": {}}, 0
+    for step in steps:
+        change = {axis: max([abs(at - last[axis].get(id, at)) for id, at in step[axis]], default=0) for axis in last} if step["step"] == "move" else None
+        total += card.move_time(change["columns"], change["rows"]) if change else card.figures[step["step"]]
+        if step["step"] != "deactivate":
+            for axis in last:
+                last[axis].update(step[axis])
+    return total
+
+
+def jobs(card, moves):
+    """The jobs of a phase of moves, given as qubit, source and target."""
+    return [job(card, group) for group in groups(card, [Move(card, *move) for move in moves])]
 
 
 def stages(ops, sites):
@@ -122,38 +215,15 @@ def plan(card, qubits, ops):
             yield timed({"type": "1qGate", "gates": gates}, figures["one"] * len(gates))
         if t == len(pulses):
             break
-        for q, place in sorted(at_site.items()):
-            yield timed(*flight(card, q, place, q))
+        for returning in jobs(card, [(q, place, q) for q, place in at_site.items()]):
+            yield timed(*returning)
         at_site = places(card, pulses[t])
-        for q, place in sorted(at_site.items()):
-            yield timed(*flight(card, q, q, place))
+        for arriving in jobs(card, [(q, q, place) for q, place in at_site.items()]):
+            yield timed(*arriving)
         yield timed({"type": "rydberg", "pairs": pulses[t]}, figures["pulse"])
     reads = [[number, op[1], op[2]] for number, op in enumerate(ops) if op[0] == "read"]
     if reads:
         yield timed({"type": "readout", "reads": reads}, figures["readout"])
-
-
-def tally(lines):
-    """The last line: what is counted in the lines of a program. A pair is kept where one of its qubits is in a pair of the last
-    `rydberg` line before and in no `deactivate` between the two."""
-    of = {kind: [line for line in lines if line["type"] == kind] for kind in ("init", "1qGate", "rydberg", "rearrangeJob", "readout")}
-    dropped = lambda line: [q for step in line.get("steps", []) if step["step"] == "deactivate" for q, _ in step["atoms"]]
-    pulses, kept = [k for k, line in enumerate(lines) if line["type"] == "rydberg"], 0
-    for last, this in zip(pulses, pulses[1:]):
-        stay = {q for _, *pair in lines[last]["pairs"] for q in pair} - {q for line in lines[last:this] for q in dropped(line)}
-        kept += sum(not stay.isdisjoint(pair) for _, *pair in lines[this]["pairs"])
-    return {
-        "type": "end",
-        "gates": sum(len(line["gates"]) for line in of["1qGate"]),
-        "jobs": len(of["rearrangeJob"]),
-        "kept": kept,
-        "moved": sum(len(dropped(line)) for line in of["rearrangeJob"]),
-        "pairs": sum(len(line["pairs"]) for line in of["rydberg"]),
-        "pulses": len(pulses),
-        "qubits": len(of["init"][0]["homes"]),
-        "reads": sum(len(line["reads"]) for line in of["readout"]),
-        "time": max(line["end"] for line in lines if "end" in line),
-    }
 
 
 def judged(card, source):
@@ -171,8 +241,7 @@ def judged(card, source):
         return 11, "limit: %s %d\n" % fault.args, []
     if scope.qubits > card.storage:
         return 7, f"too many qubits: {scope.qubits} for {card.storage} traps\n", []
-    lines = list(plan(card, scope.qubits, ops))
-    lines.append(tally(lines))
+    lines = plan(card, scope.qubits, ops)
     return 0, "", [json.dumps(line, sort_keys=True, separators=(",", ":")) + "\n" for line in lines]
 
 

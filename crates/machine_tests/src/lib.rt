@@ -20,6 +20,8 @@ mod io;
 #[cfg(test)]
 mod keepings;
 #[cfg(test)]
+mod lowering;
+#[cfg(test)]
 mod machines;
 #[cfg(test)]
 mod matchings;

@@ -1,13 +1,14 @@
 -- The acts of a plan: their steps are legal one after another, each may stand in a program, and each move goes somewhere.
-use Rattle.std.proofs.Common.{◌≡◌, ℕ, ◌<◌, ◌≤◌, Bool, not, ◌&&◌, List, [], ◌∷◌, ◌++◌, Option, Some, None, IsTrue, length, get_or, set, refl, sym, ap, ◌∙◌, subst, arith, map, slice_get}
-use Rattle.std.specs.List.{AllByRecursion, Contains, cons_option, flat_map, filter_map, list_all, range_with_len}
+use Rattle.std.proofs.Common.{◌≡◌, ℕ, ◌<◌, ◌≤◌, Bool, not, ◌&&◌, List, [], ◌∷◌, ◌++◌, Option, Some, None, IsTrue, length, get_or, set, refl, sym, ◌∙◌, subst, arith, map, slice_get}
+use Rattle.std.specs.List.{AllByRecursion, cons_option, flat_map, filter_map, list_all, range_with_len}
 use Rattle.std.specs.Option.{option_and_then}
 use Rattle.std.proofs.lemmas.Bool.{and_from, and_parts}
 use Rattle.std.proofs.lemmas.Grind.{flat_map-append}
 use Rattle.std.proofs.lemmas.List.{length-set}
-use Rattle.std.proofs.lemmas.List.Elements.{All-from_recursion}
+use Rattle.std.proofs.lemmas.List.Elements.{All-from_recursion, recursion_from_All}
 use Rattle.std.proofs.lemmas.List.FromFn.{length-map-range_with_len}
 use Rattle.std.proofs.lemmas.Option.{slice_get-get_or}
+use Rattle.zac_aod.specs.Lowering.{job_steps}
 use Rattle.zac_arch.specs.Architecture.{Architecture, storage_count}
 use Rattle.zac_arch.specs.Rules.{KeepsRules}
 use Rattle.zac_arch.specs.declared.place.TrapId.{TrapId}
@@ -16,7 +17,7 @@ use Rattle.zac_gates.specs.declared.circuit.Op.{Op}
 use Rattle.zac_gates.specs.declared.circuit.Op.TheVariants as op
 use Rattle.zair_form.specs.Steps.{steps_of, is_init, has_own_steps}
 use Rattle.zair_form.specs.declared.program.Act.{Act}
-use Rattle.zair_form.specs.declared.program.Act.TheVariants.{Rydberg}
+use Rattle.zair_form.specs.declared.program.Act.TheVariants.{Job, Rydberg}
 use Rattle.zair_form.specs.declared.step.OneGate.{OneGate}
 use Rattle.zair_form.specs.declared.step.PairOf.{PairOf}
 use Rattle.zair_form.specs.declared.step.ReadOf.{ReadOf}
@@ -24,15 +25,19 @@ use Rattle.zair_form.specs.declared.step.Step.{Step}
 use Rattle.zair_form.specs.declared.step.Step.TheVariants.{One}
 use Rattle.zair_state.specs.Chain.{EachGoesSomewhere, MovesGoSomewhere}
 use Rattle.zair_state.specs.Legal.{Rests}
-use Rattle.zair_state.specs.State.{opening}
-use Rattle.zac_plan.specs.declared.shift.Shift.{Shift}
-use Rattle.zac_plan.specs.Plan.{home, homes_for, arrivals, returns, carry, carries, gate_of, read_of, gates_at, pairs_at, reads_in, gates_act, reads_act, acts_from}
-use Rattle.zac_plan.proofs.Lists.{all-append, contained_in_none, contains_here, contains_later, pairs_none}
-use Rattle.zac_plan.proofs.Moves.{carry-goes_somewhere, point_at-apart}
-use Rattle.zac_plan.proofs.Phases.{IsPhase, after_shifts, leads-append, leads_nowhere, phase_leads}
-use Rattle.zac_plan.proofs.Placing.{placed, arrivals_phase, returns_phase, pulse_leads}
-use Rattle.zac_plan.proofs.Pulse.{rests_in}
-use Rattle.zac_plan.proofs.Rests.{CanShift, LeadsTo}
+use Rattle.zair_state.specs.Invariant.{IsSound}
+use Rattle.zair_state.specs.Run.{IsLegalRun, after_all}
+use Rattle.zair_state.specs.State.{State, opening}
+use Rattle.zac_group.specs.Groups.{IsGroup, MoveGroup}
+use Rattle.zac_group.specs.declared.shift.Shift.{Shift}
+use Rattle.zac_plan.specs.Growth.{AreSoundJobs}
+use Rattle.zac_plan.specs.Plan.{home, homes_for, arrivals, returns, job_of, gate_of, read_of, gates_at, pairs_at, reads_in, gates_act, reads_act}
+use Rattle.zac_plan.proofs.Grouping.{all_moves, groups_permute}
+use Rattle.zac_plan.proofs.Jobs.{job_own, jobs_lead, sound_behind}
+use Rattle.zac_plan.proofs.Lists.{all-append, contained_in_none, pairs_none}
+use Rattle.zac_plan.proofs.Phases.{CanMake, after_permuted, after_shifts, leads-append, leads_nowhere, make_permuted}
+use Rattle.zac_plan.proofs.Placing.{placed, can_all_arrive, can_all_return, pulse_leads}
+use Rattle.zac_plan.proofs.Rests.{LeadsTo, rests_in}
 use Rattle.zac_plan.proofs.Seats.{AreApart, IsPulse}
 
 -- an instruction that may follow the first
@@ -107,31 +112,18 @@ reads_part a t (r ∷ rs) h = record {
   go = ((tt, tt), tt);
 }
 
--- the jobs of a phase
-carries_come : (a : Architecture) (shifts : List Shift) → IsTrue (list_all may_come (carries a shifts))
-carries_come a [] = refl
-carries_come a (s ∷ ss) = carries_come a ss
+-- jobs of groups may come, and their beams go somewhere
+jobs_come : (a : Architecture) (groups : List MoveGroup) → IsTrue (list_all may_come (map (job_of a) groups))
+jobs_come a [] = refl
+jobs_come a (g ∷ gs) = and_from (may_come (job_of a g)) (list_all may_come (map (job_of a) gs)) (job_own a g.shifts) (jobs_come a gs)
 
-same_trap : (t u : TrapId) → t.0 ≡ u.0 → t ≡ u
-same_trap t u e = λ i. record { 0 = e i }
-
-shift_goes : (a : Architecture) → KeepsRules a → (t : List TrapId) (s : Shift) → CanShift a t s → MovesGoSomewhere (carry a s)
-shift_goes a rules t s can =
-    carry-goes_somewhere a s (point_at-apart a rules s.from s.to can.from_in can.to_in
-    (λ e. can.empty s.q (can.rests ∙ ap (λ (x : TrapId). Some x) (same_trap s.from s.to e))))
-
-carries_go : (a : Architecture) → KeepsRules a → (t : List TrapId) (shifts : List Shift) → ((s : Shift) → Contains shifts s → CanShift a t s) →
-    AllByRecursion MovesGoSomewhere (carries a shifts)
-carries_go a rules t [] can = tt
-carries_go a rules t (s ∷ ss) can =
-    (shift_goes a rules t s (can s (contains_here s ss)), carries_go a rules t ss (λ u in_rest. can u (contains_later s u ss in_rest)))
-
-pub phase_part : (a : Architecture) → KeepsRules a → (t u : List TrapId) (shifts : List Shift) → IsPhase a t shifts → after_shifts t shifts ≡ u → IsPart a t (carries a shifts) u
-phase_part a rules t u shifts phase leaves = record {
-  leads = subst (λ (l : List TrapId). LeadsTo a t (flat_map (λ act. steps_of act) (carries a shifts)) l) leaves (phase_leads a rules t shifts phase);
-  come = carries_come a shifts;
-  go = carries_go a rules t shifts phase.each;
-}
+jobs_go : (a : Architecture) → ((shifts : List Shift) → IsGroup (record { card = a; shifts = shifts }) → MovesGoSomewhere (Job 0 (job_steps a shifts 0))) → (groups : List MoveGroup) → AllByRecursion (λ (g : MoveGroup). g.card ≡ a) groups → AllByRecursion IsGroup groups →
+    AllByRecursion MovesGoSomewhere (map (job_of a) groups)
+jobs_go a goes [] cards kept = tt
+jobs_go a goes (g ∷ gs) cards kept = (
+  goes g.shifts (subst (λ (c : Architecture). IsGroup (record { card = c; shifts = g.shifts })) cards.0 kept.0),
+  jobs_go a goes gs cards.1 kept.1,
+)
 
 -- the gates at these numbers are in range
 module _ (n bits : ℕ) where
@@ -167,54 +159,56 @@ length-after_shifts t (s ∷ ss) = length-after_shifts (set t s.q s.to) ss ∙ l
 pub length-placed : (a : Architecture) (n : ℕ) (pairs : List PairOf) → length (placed a n pairs) ≡ n
 length-placed a n pairs = length-after_shifts (homes_for n) (arrivals a pairs) ∙ length-map-range_with_len home 0 n
 
--- The rounds of a plan, from a pulse on.
+-- no pair is at the sites at first
+pub none_placed : (a : Architecture) (n : ℕ) → IsPulse a n []
+none_placed a n = record { few = omega arith; each = λ p listed. absurd (contained_in_none p listed); apart = pairs_none AreApart }
+
+-- The parts of a plan.
 module _ (a : Architecture) (rules : KeepsRules a) (n : ℕ) (fit : n ≤ storage_count a) (bits : ℕ) (ops : List Op)
-    (valid : (k : ℕ) (what : Op) → slice_get ops k ≡ Some what → IsInRange n bits what) where
-  slot_part : (pairs : List PairOf) (slot : List ℕ) → IsPart a (placed a n pairs) (gates_act (gates_at ops slot)) (placed a n pairs)
+    (valid : (k : ℕ) (what : Op) → slice_get ops k ≡ Some what → IsInRange n bits what)
+    (keeps : (s : State) (steps : List Step) → IsSound a s → IsLegalRun a s steps → IsSound a (after_all s steps)) where
+  pub slot_part : (pairs : List PairOf) (slot : List ℕ) → IsPart a (placed a n pairs) (gates_act (gates_at ops slot)) (placed a n pairs)
   slot_part pairs slot =
       gates_part a (placed a n pairs) (gates_at ops slot)
       (subst (λ m. AllByRecursion (IsGateBelow m) (gates_at ops slot)) (sym (length-placed a n pairs)) (gates_below n bits ops valid slot))
 
-  arrivals_part : (pairs : List PairOf) → IsPulse a n pairs → IsPart a (homes_for n) (carries a (arrivals a pairs)) (placed a n pairs)
-  arrivals_part pairs pulse = phase_part a rules (homes_for n) (placed a n pairs) (arrivals a pairs) (arrivals_phase a rules n fit pairs pulse) refl
+  pub readout_part : (pairs : List PairOf) → IsPart a (placed a n pairs) (reads_act (reads_in ops)) (placed a n pairs)
+  readout_part pairs =
+      reads_part a (placed a n pairs) (reads_in ops)
+      (subst (λ m. AllByRecursion (IsReadBelow m) (reads_in ops)) (sym (length-placed a n pairs)) (reads_below n bits ops valid (range_with_len 0 (length ops))))
 
-  returns_part : (pairs : List PairOf) → IsPulse a n pairs → IsPart a (placed a n pairs) (carries a (returns a pairs)) (homes_for n)
-  returns_part pairs pulse =
-      let phase = returns_phase a rules n fit pairs pulse in
-      phase_part a rules (placed a n pairs) (homes_for n) (returns a pairs) phase.0 phase.1
+  pub sound_after : (t u : List TrapId) (acts : List Act) → IsSound a (opening a t) → IsPart a t acts u → IsSound a (opening a u)
+  sound_after t u acts sound part = sound_behind a rules keeps t u (flat_map (λ act. steps_of act) acts) sound part.leads
 
   pulse_part : (pairs : List PairOf) → IsPulse a n pairs → IsPart a (placed a n pairs) (Rydberg pairs ∷ []) (placed a n pairs)
   pulse_part pairs pulse = record { leads = pulse_leads a rules n fit pairs pulse; come = refl; go = ((tt, tt), tt) }
 
-  -- it leads to where the atoms of some pulse that fits are at the sites
-  pub rounds_part : (before : List PairOf) (slots pulses : List (List ℕ)) → IsPulse a n before → AllByRecursion (λ pulse. IsPulse a n (pairs_at ops pulse)) pulses →
-      (last : List PairOf) × IsPart a (placed a n before) (acts_from a ops before slots pulses) (placed a n last)
-  rounds_part before [] pulses here later = (before, part_none a (placed a n before))
-  rounds_part before (slot ∷ slots) [] here later =
-      let rest = rounds_part before slots [] here tt in
-      (rest.0, part_append a (placed a n before) (placed a n before) (placed a n rest.0) (gates_act (gates_at ops slot)) (acts_from a ops before slots []) (slot_part before slot) rest.1)
-  rounds_part before (slot ∷ slots) (pulse ∷ pulses) here later =
-      let pairs : List PairOf = pairs_at ops pulse in
-      let rest = rounds_part pairs slots pulses later.0 later.1 in
-      let behind : List Act = acts_from a ops pairs slots pulses in
-      let from_pulse : IsPart a (placed a n pairs) (Rydberg pairs ∷ behind) (placed a n rest.0) =
-      part_append a (placed a n pairs) (placed a n pairs) (placed a n rest.0) (Rydberg pairs ∷ []) behind (pulse_part pairs later.0) rest.1 in
-      let from_arrivals = part_append a (homes_for n) (placed a n pairs) (placed a n rest.0) (carries a (arrivals a pairs)) (Rydberg pairs ∷ behind) (arrivals_part pairs later.0) from_pulse in
-      let from_returns = part_append a (placed a n before) (homes_for n) (placed a n rest.0) (carries a (returns a before)) (carries a (arrivals a pairs) ++ Rydberg pairs ∷ behind) (returns_part before here) from_arrivals in (
-        rest.0,
-        part_append a (placed a n before) (placed a n before) (placed a n rest.0) (gates_act (gates_at ops slot))
-            (carries a (returns a before) ++ (carries a (arrivals a pairs) ++ Rydberg pairs ∷ behind)) (slot_part before slot) from_returns,
-      )
+  -- in each move of a job some beam goes somewhere
+  module _ (goes : (shifts : List Shift) → IsGroup (record { card = a; shifts = shifts }) → MovesGoSomewhere (Job 0 (job_steps a shifts 0))) where
+    -- the jobs of a phase
+    jobs_part : (t : List TrapId) (shifts : List Shift) (acts : List Act) → IsSound a (opening a t) → CanMake t shifts → AreSoundJobs a shifts acts → IsPart a t acts (after_shifts t shifts)
+    jobs_part t shifts acts sound can_make are =
+        let permutes = groups_permute a shifts are.groups are.grouping in
+        let can = make_permuted t shifts (all_moves are.groups) permutes can_make in
+        let leads = jobs_lead a rules keeps t are.groups sound can are.sound in
+        subst (λ (l : List Act). IsPart a t l (after_shifts t shifts)) (sym are.jobs) (record {
+          leads = subst (LeadsTo a t (flat_map (λ act. steps_of act) (map (job_of a) are.groups))) (sym (after_permuted t shifts (all_moves are.groups) permutes can_make)) leads;
+          come = jobs_come a are.groups;
+          go = jobs_go a goes are.groups (recursion_from_All (λ (g : MoveGroup). g.card ≡ a) are.groups are.grouping.cards) (recursion_from_All IsGroup are.groups are.grouping.kept);
+        })
 
-  -- no pair is at the sites at first
-  none_placed : IsPulse a n []
-  none_placed = record { few = omega arith; each = λ p listed. absurd (contained_in_none p listed); apart = pairs_none AreApart }
-
-  -- the whole, with the reads
-  pub all_part : (slots pulses : List (List ℕ)) → AllByRecursion (λ pulse. IsPulse a n (pairs_at ops pulse)) pulses →
-      (last : List PairOf) × IsPart a (homes_for n) (acts_from a ops [] slots pulses ++ reads_act (reads_in ops)) (placed a n last)
-  all_part slots pulses fits =
-      let rounds = rounds_part [] slots pulses none_placed fits in
-      let t : List TrapId = placed a n rounds.0 in
-      let reads = reads_part a t (reads_in ops) (subst (λ m. AllByRecursion (IsReadBelow m) (reads_in ops)) (sym (length-placed a n rounds.0)) (reads_below n bits ops valid (range_with_len 0 (length ops)))) in
-      (rounds.0, part_append a (homes_for n) t t (acts_from a ops [] slots pulses) (reads_act (reads_in ops)) rounds.1 reads)
+    -- what is done with a pulse leads from where the pairs of the pulse before it are at the sites to where its own are
+    pub round_part : (before : List PairOf) (slot pulse : List ℕ) (return_jobs arrival_jobs : List Act) → IsPulse a n before → IsPulse a n (pairs_at ops pulse) →
+        IsSound a (opening a (placed a n before)) → AreSoundJobs a (returns a before) return_jobs → AreSoundJobs a (arrivals a (pairs_at ops pulse)) arrival_jobs →
+        IsPart a (placed a n before) (gates_act (gates_at ops slot) ++ (return_jobs ++ (arrival_jobs ++ Rydberg (pairs_at ops pulse) ∷ []))) (placed a n (pairs_at ops pulse))
+    round_part before slot pulse return_jobs arrival_jobs here next sound returned arrived =
+        let pairs : List PairOf = pairs_at ops pulse in
+        let way = can_all_return a rules n fit before here in
+        let back_home : IsPart a (placed a n before) return_jobs (homes_for n) =
+        subst (IsPart a (placed a n before) return_jobs) way.1 (jobs_part (placed a n before) (returns a before) return_jobs sound way.0 returned) in
+        let sound_home = sound_after (placed a n before) (homes_for n) return_jobs sound back_home in
+        let to_the_sites : IsPart a (homes_for n) arrival_jobs (placed a n pairs) =
+        jobs_part (homes_for n) (arrivals a pairs) arrival_jobs sound_home (can_all_arrive a rules n fit pairs next) arrived in
+        let from_arrivals = part_append a (homes_for n) (placed a n pairs) (placed a n pairs) arrival_jobs (Rydberg pairs ∷ []) to_the_sites (pulse_part pairs next) in
+        let from_returns = part_append a (placed a n before) (homes_for n) (placed a n pairs) return_jobs (arrival_jobs ++ Rydberg pairs ∷ []) back_home from_arrivals in
+        part_append a (placed a n before) (placed a n before) (placed a n pairs) (gates_act (gates_at ops slot)) (return_jobs ++ (arrival_jobs ++ Rydberg pairs ∷ [])) (slot_part before slot) from_returns

@@ -1,35 +1,25 @@
 -- A timeline goes on: by one instruction, and by some after others.
-use Rattle.std.proofs.Common.{◌≡◌, ℕ, ◌+◌, ◌*◌, ◌<◌, ◌≤◌, List, [], ◌∷◌, ◌++◌, length, get_or, take, refl, sym, ap, ◌∙◌, subst, arith, map, append_assoc, append-nil}
-use Rattle.std.specs.List.{All, AllByRecursion}
+use Rattle.std.proofs.Common.{◌≡◌, ℕ, zero, suc, ◌+◌, ◌*◌, ◌<◌, ◌≤◌, List, [], ◌∷◌, ◌++◌, length, get_or, take, refl, sym, ap, ◌∙◌, subst, arith, map, append_assoc, append-nil}
+use Rattle.std.specs.List.{AllByRecursion}
 use Rattle.std.proofs.lemmas.List.{map-append, take_more}
-use Rattle.std.proofs.lemmas.List.Elements.{All-map}
-use Rattle.std.proofs.lemmas.Option.{get_or_from_slice_get}
-use Rattle.zac_arch.specs.Architecture.{Architecture, StandsAt, trap_count, trap_points}
-use Rattle.zac_arch.specs.Distances.{difference, IsMoveTime}
+use Rattle.zac_arch.specs.Architecture.{Architecture}
 use Rattle.zac_arch.specs.declared.card.Figures.{Figures}
-use Rattle.zac_arch.specs.declared.place.Point.{Point}
-use Rattle.zac_arch.specs.declared.place.TrapId.{TrapId}
-use Rattle.zac_arch.specs.Rules.{KeepsRules}
-use Rattle.zac_arch.proofs.Geometry.{on_the_field, site_count_most, storage_count_most, trap_count_is}
 use Rattle.zair_form.specs.declared.step.OneGate.{OneGate}
 use Rattle.zair_form.specs.declared.step.ReadOf.{ReadOf}
 use Rattle.zair_form.specs.declared.step.Step.{Step}
 use Rattle.zair_form.specs.declared.step.Step.TheVariants.{One}
 use Rattle.zair_form.specs.declared.program.Act.{Act}
-use Rattle.zair_form.specs.declared.program.Act.TheVariants.{Gates, Job, Readout}
+use Rattle.zair_form.specs.declared.program.Act.TheVariants.{Gates, Readout}
 use Rattle.zair_form.specs.declared.program.Instr.{Instr}
-use Rattle.zair_form.specs.Ranges.{ActFits, BeamFits, IsNumber, IsPosition}
+use Rattle.zair_form.specs.Ranges.{ActFits}
 use Rattle.zair_form.specs.Steps.{steps_of}
-use Rattle.zair_form.specs.Times.{LastTogether, greatest_change}
+use Rattle.zair_form.specs.Times.{LastTogether}
 use Rattle.zair_state.specs.Chain.{IsChain, end_of}
 use Rattle.zac_plan.specs.declared.timeline.Timeline.{Timeline}
-use Rattle.zac_plan.specs.Flight.{flight_steps, IsFlightTime}
-use Rattle.zac_plan.specs.Growth.{GoesOn, HasTraps}
-use Rattle.zac_plan.specs.declared.shift.Shift.{Shift}
-use Rattle.zac_plan.specs.Plan.{back, carrier, carry, carries, point_at, gates_act, reads_act}
+use Rattle.zac_group.specs.Groups.{MoveGroup}
+use Rattle.zac_plan.specs.Growth.{GoesOn, IsSoundGroup, moves_in}
+use Rattle.zac_plan.specs.Plan.{job_of, gates_act, reads_act}
 use Rattle.zac_plan.proofs.Lists.{all-append}
-use Rattle.zac_plan.proofs.Moves.{carrier_change}
-use Rattle.zac_plan.proofs.Rests.{stands_at}
 
 -- a chain after a chain
 IsChain-append : (f : Figures) (from : ℕ) (is js : List Instr) →
@@ -72,39 +62,6 @@ gates_last f earlier [] = omega arith
 gates_last f earlier (g ∷ gs) =
     (f.one, length gs * f.one, omega arith, refl, gates_last f (earlier ++ One g ∷ []) gs)
 
--- the steps of a flight take as long as the flight
-pub flight_lasts : (f : Figures) (q : ℕ) (to : TrapId) (p r : Point) (time : ℕ) → p.x ≤ 1000000 → p.y ≤ 1000000 → r.x ≤ 1000000 → r.y ≤ 1000000 →
-    IsFlightTime f p r time → LastTogether f [] (flight_steps q to p r) time
-flight_lasts f q to p r time px py rx ry h =
-    let x : greatest_change (carrier p.x) (carrier r.x) ≡ difference p.x r.x = carrier_change p.x r.x ∙ omega arith in
-    let y : greatest_change (carrier p.y) (carrier r.y) ≡ difference p.y r.y = carrier_change p.y r.y ∙ omega arith in
-    let moves : IsMoveTime f.accel (greatest_change (carrier p.x) (carrier r.x)) (greatest_change (carrier p.y) (carrier r.y)) h.moving =
-    subst (λ (m : ℕ). IsMoveTime f.accel m (greatest_change (carrier p.y) (carrier r.y)) h.moving) (sym x)
-    (subst (λ (m : ℕ). IsMoveTime f.accel (difference p.x r.x) m h.moving) (sym y) h.move) in
-    let sum = h.sum in (
-      f.activate,
-      h.moving + f.deactivate,
-      omega arith,
-      refl,
-      (
-        h.moving,
-        f.deactivate,
-        refl,
-        moves,
-        (f.deactivate, 0, omega arith, refl, refl),
-      ),
-    )
-
--- where a trap stands
-pub point_is : (a : Architecture) (t : TrapId) (p : Point) → StandsAt a t.0 p → p ≡ point_at a t
-point_is a t p h = sym (get_or_from_slice_get (trap_points a) t.0 p (record { x = 0; y = 0 }) h)
-
--- the steps of a carry are those of the flight between its traps
-pub carry_is : (a : Architecture) (s : Shift) (p r : Point) → StandsAt a s.from.0 p → StandsAt a s.to.0 r → Job 0 (flight_steps s.q s.to p r) ≡ carry a s
-carry_is a s p r source target =
-    ap (λ (x : Point). Job 0 (flight_steps s.q s.to x r)) (point_is a s.from p source)
-    ∙ ap (λ (x : Point). Job 0 (flight_steps s.q s.to (point_at a s.from) x)) (point_is a s.to r target)
-
 pub goes_on_same : (f : Figures) (x y : Timeline) (these those : List Act) → these ≡ those → GoesOn f x y these → GoesOn f x y those
 goes_on_same f x y these those e h = subst (λ (l : List Act). GoesOn f x y l) e h
 
@@ -117,50 +74,37 @@ pub reads_are : (reads : List ReadOf) → 0 < length reads → Readout reads ∷
 reads_are [] h = absurd (omega arith)
 reads_are (r ∷ rs) h = refl
 
--- the coordinates of a trap
-pub on_field : (a : Architecture) → KeepsRules a → (t : ℕ) (p : Point) → StandsAt a t p → (p.x ≤ 1000000) × (p.y ≤ 1000000)
-on_field a rules t p h =
-    let on = on_the_field a rules t p h in
-    (omega arith, omega arith)
-
--- what a carry has is in range
-carrier_fits : (at : ℕ) → IsPosition at → AllByRecursion BeamFits (carrier at)
-carrier_fits at h = ((omega arith, h), tt)
-
-pub carry_fits : (a : Architecture) → KeepsRules a → (s : Shift) → IsNumber s.q → s.from.0 < trap_count a → s.to.0 < trap_count a → ActFits (carry a s)
-carry_fits a rules s qubit from_in to_in =
-    let source = on_field a rules s.from.0 (point_at a s.from) (stands_at a s.from from_in) in
-    let target = on_field a rules s.to.0 (point_at a s.to) (stands_at a s.to to_in) in
-    let trap : IsNumber s.to.0 = omega (arith, trap_count_is a rules, storage_count_most a rules, site_count_most a rules) in (
-      omega arith,
-      (
-        (
-          omega arith,
-          carrier_fits (point_at a s.from).y source.1,
-          carrier_fits (point_at a s.from).x source.0,
-          ((qubit, omega arith, omega arith), tt),
-        ),
-        (
-          (omega arith, carrier_fits (point_at a s.to).y target.1, carrier_fits (point_at a s.to).x target.0),
-          ((omega arith, (omega arith, tt), (omega arith, tt), ((qubit, trap), tt)), tt),
-        ),
-      ),
-    )
-
 -- four parts one after another
 pub four_go_on : (f : Figures) (v w x y z : Timeline) (as1 as2 as3 as4 : List Act) → GoesOn f v w as1 → GoesOn f w x as2 → GoesOn f x y as3 → GoesOn f y z as4 →
     GoesOn f v z (as1 ++ (as2 ++ (as3 ++ as4)))
 four_go_on f v w x y z as1 as2 as3 as4 h i j k =
     goes_on_append f v w z as1 (as2 ++ (as3 ++ as4)) h (goes_on_append f w x z as2 (as3 ++ as4) i (goes_on_append f x y z as3 as4 j k))
 
--- one shift more
-pub carries_more : (a : Architecture) (x y z : Timeline) (shifts : List Shift) (k : ℕ) (d : Shift) → k < length shifts →
-    GoesOn a.figures x y (carries a (take k shifts)) → GoesOn a.figures y z (carry a (get_or shifts k d) ∷ []) → GoesOn a.figures x z (carries a (take (k + 1) shifts))
-carries_more a x y z shifts k d within h k_more =
-    goes_on_same a.figures x z (carries a (take k shifts) ++ carry a (get_or shifts k d) ∷ []) (carries a (take (k + 1) shifts))
-    (sym (ap (carries a) (take_more shifts k d within) ∙ map-append (carry a) (take k shifts) (get_or shifts k d ∷ [])))
-    (goes_on_append a.figures x y z (carries a (take k shifts)) (carry a (get_or shifts k d) ∷ []) h k_more)
+-- one group more
+pub jobs_more : (a : Architecture) (x y z : Timeline) (groups : List MoveGroup) (k : ℕ) (d : MoveGroup) → k < length groups →
+    GoesOn a.figures x y (map (job_of a) (take k groups)) → GoesOn a.figures y z (job_of a (get_or groups k d) ∷ []) → GoesOn a.figures x z (map (job_of a) (take (k + 1) groups))
+jobs_more a x y z groups k d within h k_more =
+    goes_on_same a.figures x z (map (job_of a) (take k groups) ++ job_of a (get_or groups k d) ∷ []) (map (job_of a) (take (k + 1) groups))
+    (sym (ap (map (job_of a)) (take_more groups k d within) ∙ map-append (job_of a) (take k groups) (get_or groups k d ∷ [])))
+    (goes_on_append a.figures x y z (map (job_of a) (take k groups)) (job_of a (get_or groups k d) ∷ []) h k_more)
 
--- the ways back have traps
-pub ways_have_traps : (a : Architecture) (shifts : List Shift) → All (HasTraps a) shifts → All (HasTraps a) (map back shifts)
-ways_have_traps a shifts h = All-map (HasTraps a) back shifts (λ k d within. let both = h k d within in (both.1, both.0))
+pub sound_more : (a : Architecture) (groups : List MoveGroup) (k : ℕ) (d : MoveGroup) → k < length groups →
+    AllByRecursion (IsSoundGroup a) (take k groups) → IsSoundGroup a (get_or groups k d) → AllByRecursion (IsSoundGroup a) (take (k + 1) groups)
+sound_more a groups k d within h next =
+    subst (AllByRecursion (IsSoundGroup a)) (sym (take_more groups k d within)) (all-append (IsSoundGroup a) (take k groups) (get_or groups k d ∷ []) h (next, tt))
+
+moves_in-append : (gs hs : List MoveGroup) → moves_in (gs ++ hs) ≡ moves_in gs + moves_in hs
+moves_in-append [] hs = omega arith
+moves_in-append (g ∷ gs) hs = omega (arith, moves_in-append gs hs)
+
+pub moves_more : (groups : List MoveGroup) (k : ℕ) (d : MoveGroup) → k < length groups → moves_in (take (k + 1) groups) ≡ moves_in (take k groups) + length (get_or groups k d).shifts
+moves_more groups k d within =
+    let more : moves_in (take (k + 1) groups) ≡ moves_in (take k groups) + moves_in (get_or groups k d ∷ []) =
+    ap moves_in (take_more groups k d within) ∙ moves_in-append (take k groups) (get_or groups k d ∷ []) in
+    omega arith
+
+pub moves_within : (groups : List MoveGroup) (k : ℕ) → moves_in (take k groups) ≤ moves_in groups
+moves_within [] zero = omega arith
+moves_within [] (suc k) = omega arith
+moves_within (g ∷ gs) zero = omega arith
+moves_within (g ∷ gs) (suc k) = omega (arith, moves_within gs k)

@@ -1,9 +1,10 @@
 -- The log of a plan: the entries of the ops of its slots and pulses in turn, and then of the reads.
-use Rattle.std.proofs.Common.{◌≡◌, ℕ, Bool, true, false, cond, List, [], ◌∷◌, ◌++◌, Option, Some, None, IsTrue, length, refl, sym, ap, ◌∙◌, map, append-nil, slice_get}
+use Rattle.std.proofs.Common.{◌≡◌, ℕ, Bool, true, false, cond, List, [], ◌∷◌, ◌++◌, Option, Some, None, IsTrue, length, refl, sym, ap, ◌∙◌, map, append-nil, append_assoc, slice_get}
 use Rattle.std.specs.List.{AllByRecursion, cons_option, filter, filter_map, flat_map, range_with_len}
 use Rattle.std.specs.Option.{option_and_then, option_map}
 use Rattle.std.proofs.lemmas.Grind.{flat_map-append}
 use Rattle.std.proofs.lemmas.List.Elements.{filter_map-append}
+use Rattle.zac_aod.specs.Lowering.{job_steps}
 use Rattle.zac_arch.specs.Architecture.{Architecture}
 use Rattle.zac_gates.specs.Log.{Entry}
 use Rattle.zac_gates.specs.declared.circuit.Op.{Op}
@@ -18,8 +19,10 @@ use Rattle.zair_form.specs.declared.program.Act.{Act}
 use Rattle.zair_form.specs.declared.program.Act.TheVariants.{Rydberg}
 use Rattle.zair_form.specs.Steps.{steps_of}
 use Rattle.zair_state.specs.Run.{entries, log_of}
-use Rattle.zac_plan.specs.declared.shift.Shift.{Shift}
-use Rattle.zac_plan.specs.Plan.{arrivals, returns, carries, gate_of, pair_of, read_of, gates_at, pairs_at, reads_in, gates_act, reads_act, acts_from}
+use Rattle.zac_group.specs.Groups.{MoveGroup}
+use Rattle.zac_group.specs.declared.shift.Shift.{Shift}
+use Rattle.zac_plan.specs.Plan.{AreJobs, AreRounds, IsRound, job_of, gate_of, pair_of, read_of, gates_at, pairs_at, reads_in, gates_act, reads_act}
+use Rattle.zac_plan.proofs.Jobs.{job_log}
 
 -- the log of what instructions do, one after another
 abbrev pub acts_log : List Act → List Entry
@@ -71,9 +74,16 @@ reads_act_log : (reads : List ReadOf) → acts_log (reads_act reads) ≡ reads_l
 reads_act_log [] = refl
 reads_act_log (r ∷ rs) = append-nil (reads_log (r ∷ rs))
 
-carries_log : (a : Architecture) (shifts : List Shift) → acts_log (carries a shifts) ≡ []
-carries_log a [] = refl
-carries_log a (s ∷ ss) = carries_log a ss
+groups_log : (a : Architecture) (groups : List MoveGroup) → acts_log (map (job_of a) groups) ≡ []
+groups_log a [] = refl
+groups_log a (g ∷ gs) =
+    acts_log-append (job_of a g ∷ []) (map (job_of a) gs)
+    ∙ ap (λ (l : List Entry). l ++ acts_log (map (job_of a) gs)) (ap log_of (append-nil (job_steps a g.shifts 0)) ∙ job_log a g.shifts)
+    ∙ groups_log a gs
+
+-- jobs perform no op
+jobs_log : (a : Architecture) (shifts : List Shift) (acts : List Act) → AreJobs a shifts acts → acts_log acts ≡ []
+jobs_log a shifts acts h = ap acts_log h.jobs ∙ groups_log a h.groups
 
 no_true : false ≡ true → ⊥
 no_true e = cc
@@ -136,44 +146,53 @@ readout_log ops (n ∷ ns) = read_entry ops n (slice_get ops n) (reads_at ops ns
 entries_at-append : (ops : List Op) (ms ns : List ℕ) → entries_at ops (ms ++ ns) ≡ entries_at ops ms ++ entries_at ops ns
 entries_at-append ops ms ns = filter_map-append (λ n. option_map (entry n) (slice_get ops n)) ms ns
 
--- the log of the rounds of a plan
-pub rounds_log : (a : Architecture) (ops : List Op) (before : List PairOf) (slots pulses : List (List ℕ)) →
-    AllByRecursion (AreOnes ops) slots → AllByRecursion (ArePairs ops) pulses → acts_log (acts_from a ops before slots pulses) ≡ entries_at ops (in_turn slots pulses)
-rounds_log a ops before [] pulses ones pairs = refl
-rounds_log a ops before (slot ∷ slots) [] ones pairs =
-    acts_log-append (gates_act (gates_at ops slot)) (acts_from a ops before slots [])
-    ∙ ap (λ (l : List Entry). l ++ acts_log (acts_from a ops before slots [])) (gates_act_log (gates_at ops slot) ∙ slot_log ops slot ones.0)
-    ∙ ap (λ (l : List Entry). entries_at ops slot ++ l) (rounds_log a ops before slots [] ones.1 tt)
-    ∙ sym (entries_at-append ops slot (in_turn slots []))
-rounds_log a ops before (slot ∷ slots) (pulse ∷ pulses) ones pairs =
+-- the log of a round
+round_log : (a : Architecture) (ops : List Op) (before : List PairOf) (slot pulse : List ℕ) (acts : List Act) → IsRound a ops before slot pulse acts →
+    AreOnes ops slot → ArePairs ops pulse → acts_log acts ≡ entries_at ops (slot ++ pulse)
+round_log a ops before slot pulse acts h ones pairs =
     let these : List PairOf = pairs_at ops pulse in
-    let rest : List Act = acts_from a ops these slots pulses in
-    let from_pulse : acts_log (Rydberg these ∷ rest) ≡ entries_at ops (pulse ++ in_turn slots pulses) =
-    ap (λ (l : List Entry). l ++ acts_log rest) (pulse_log ops pulse pairs.0)
-    ∙ ap (λ (l : List Entry). entries_at ops pulse ++ l) (rounds_log a ops these slots pulses ones.1 pairs.1)
-    ∙ sym (entries_at-append ops pulse (in_turn slots pulses)) in
-    let from_arrivals : acts_log (carries a (arrivals a these) ++ Rydberg these ∷ rest) ≡ entries_at ops (pulse ++ in_turn slots pulses) =
-    acts_log-append (carries a (arrivals a these)) (Rydberg these ∷ rest)
-    ∙ ap (λ (l : List Entry). l ++ acts_log (Rydberg these ∷ rest)) (carries_log a (arrivals a these))
-    ∙ from_pulse in
-    let from_returns : acts_log (carries a (returns a before) ++ (carries a (arrivals a these) ++ Rydberg these ∷ rest)) ≡ entries_at ops (pulse ++ in_turn slots pulses) =
-    acts_log-append (carries a (returns a before)) (carries a (arrivals a these) ++ Rydberg these ∷ rest)
-    ∙ ap (λ (l : List Entry). l ++ acts_log (carries a (arrivals a these) ++ Rydberg these ∷ rest)) (carries_log a (returns a before))
+    let from_arrivals : acts_log (h.arrival_jobs ++ Rydberg these ∷ []) ≡ entries_at ops pulse =
+    acts_log-append h.arrival_jobs (Rydberg these ∷ [])
+    ∙ ap (λ (l : List Entry). l ++ acts_log (Rydberg these ∷ [])) (jobs_log a _ h.arrival_jobs h.arrived)
+    ∙ append-nil (pairs_log these)
+    ∙ pulse_log ops pulse pairs in
+    let from_returns : acts_log (h.return_jobs ++ (h.arrival_jobs ++ Rydberg these ∷ [])) ≡ entries_at ops pulse =
+    acts_log-append h.return_jobs (h.arrival_jobs ++ Rydberg these ∷ [])
+    ∙ ap (λ (l : List Entry). l ++ acts_log (h.arrival_jobs ++ Rydberg these ∷ [])) (jobs_log a _ h.return_jobs h.returned)
     ∙ from_arrivals in
-    acts_log-append (gates_act (gates_at ops slot)) (carries a (returns a before) ++ (carries a (arrivals a these) ++ Rydberg these ∷ rest))
-    ∙ ap (λ (l : List Entry). l ++ acts_log (carries a (returns a before) ++ (carries a (arrivals a these) ++ Rydberg these ∷ rest))) (gates_act_log (gates_at ops slot) ∙ slot_log ops slot ones.0)
+    ap acts_log h.acts_are
+    ∙ acts_log-append (gates_act (gates_at ops slot)) (h.return_jobs ++ (h.arrival_jobs ++ Rydberg these ∷ []))
+    ∙ ap (λ (l : List Entry). l ++ acts_log (h.return_jobs ++ (h.arrival_jobs ++ Rydberg these ∷ []))) (gates_act_log (gates_at ops slot) ∙ slot_log ops slot ones)
     ∙ ap (λ (l : List Entry). entries_at ops slot ++ l) from_returns
-    ∙ sym (entries_at-append ops slot (pulse ++ in_turn slots pulses))
+    ∙ sym (entries_at-append ops slot pulse)
+
+-- the log of the rounds of a plan
+pub rounds_log : (a : Architecture) (ops : List Op) (before : List PairOf) (slots pulses : List (List ℕ)) (acts : List Act) → AreRounds a ops before slots pulses acts →
+    AllByRecursion (AreOnes ops) slots → AllByRecursion (ArePairs ops) pulses → acts_log acts ≡ entries_at ops (in_turn slots pulses)
+rounds_log a ops before [] pulses acts h ones pairs = ap acts_log h
+rounds_log a ops before (slot ∷ slots) [] acts h ones pairs =
+    ap acts_log h.1
+    ∙ acts_log-append (gates_act (gates_at ops slot)) h.0
+    ∙ ap (λ (l : List Entry). l ++ acts_log h.0) (gates_act_log (gates_at ops slot) ∙ slot_log ops slot ones.0)
+    ∙ ap (λ (l : List Entry). entries_at ops slot ++ l) (rounds_log a ops before slots [] h.0 h.2 ones.1 tt)
+    ∙ sym (entries_at-append ops slot (in_turn slots []))
+rounds_log a ops before (slot ∷ slots) (pulse ∷ pulses) acts h ones pairs =
+    ap acts_log h.2
+    ∙ acts_log-append h.0 h.1
+    ∙ ap (λ (l : List Entry). l ++ acts_log h.1) (round_log a ops before slot pulse h.0 h.3 ones.0 pairs.0)
+    ∙ ap (λ (l : List Entry). entries_at ops (slot ++ pulse) ++ l) (rounds_log a ops (pairs_at ops pulse) slots pulses h.1 h.4 ones.1 pairs.1)
+    ∙ sym (entries_at-append ops (slot ++ pulse) (in_turn slots pulses))
+    ∙ ap (entries_at ops) (append_assoc slot pulse (in_turn slots pulses))
 
 -- the numbers of a plan's ops in the order in which they are performed
 abbrev pub performed : List Op → List (List ℕ) → List (List ℕ) → List ℕ
 performed ops slots pulses = in_turn slots pulses ++ reads_among ops (range_with_len 0 (length ops))
 
 -- the log of the whole plan
-pub plan_log : (a : Architecture) (ops : List Op) (slots pulses : List (List ℕ)) → AllByRecursion (AreOnes ops) slots → AllByRecursion (ArePairs ops) pulses →
-    acts_log (acts_from a ops [] slots pulses ++ reads_act (reads_in ops)) ≡ entries_at ops (performed ops slots pulses)
-plan_log a ops slots pulses ones pairs =
-    acts_log-append (acts_from a ops [] slots pulses) (reads_act (reads_in ops))
-    ∙ ap (λ (l : List Entry). l ++ acts_log (reads_act (reads_in ops))) (rounds_log a ops [] slots pulses ones pairs)
+pub plan_log : (a : Architecture) (ops : List Op) (slots pulses : List (List ℕ)) (rounds : List Act) → AreRounds a ops [] slots pulses rounds →
+    AllByRecursion (AreOnes ops) slots → AllByRecursion (ArePairs ops) pulses → acts_log (rounds ++ reads_act (reads_in ops)) ≡ entries_at ops (performed ops slots pulses)
+plan_log a ops slots pulses rounds are ones pairs =
+    acts_log-append rounds (reads_act (reads_in ops))
+    ∙ ap (λ (l : List Entry). l ++ acts_log (reads_act (reads_in ops))) (rounds_log a ops [] slots pulses rounds are ones pairs)
     ∙ ap (λ (l : List Entry). entries_at ops (in_turn slots pulses) ++ l) (reads_act_log (reads_in ops) ∙ readout_log ops (range_with_len 0 (length ops)))
     ∙ sym (entries_at-append ops (in_turn slots pulses) (reads_among ops (range_with_len 0 (length ops))))

@@ -1,15 +1,14 @@
 -- A chain of instructions that do the plan of a circuit is safe.
-use Rattle.std.proofs.Common.{◌≡◌, ℕ, ◌≤◌, List, [], ◌∷◌, ◌++◌, Some, IsTrue, get_or, refl, sym, ap, ◌∙◌, subst, arith, map, slice_get}
+use Rattle.std.proofs.Common.{◌≡◌, ℕ, ◌≤◌, List, [], ◌∷◌, ◌++◌, IsTrue, get_or, refl, sym, ap, ◌∙◌, subst, arith, map}
 use Rattle.std.specs.List.{AllByRecursion, flat_map, list_all}
 use Rattle.std.proofs.lemmas.Bool.{and_from, and_parts}
 use Rattle.std.proofs.lemmas.List.FromFn.{length-map-range_with_len}
 use Rattle.std.proofs.lemmas.Option.{slice_get-get_or}
 use Rattle.zac_arch.specs.Architecture.{Architecture, storage_count}
-use Rattle.zac_arch.specs.Rules.{KeepsRules, HasFigureRanges}
+use Rattle.zac_arch.specs.Rules.{HasFigureRanges}
 use Rattle.zac_arch.specs.declared.place.TrapId.{TrapId}
 use Rattle.zac_gates.specs.Log.{Entry, Realises}
-use Rattle.zac_gates.specs.Ops.{NativeCircuit, IsInRange, IsValid}
-use Rattle.zac_gates.specs.declared.circuit.Op.{Op}
+use Rattle.zac_gates.specs.Ops.{NativeCircuit}
 use Rattle.zac_stage.specs.Staging.{Staging}
 use Rattle.zair_form.specs.Steps.{steps_of, is_init, is_program, may_follow, homes, homes_of}
 use Rattle.zair_form.specs.declared.program.Act.{Act}
@@ -22,16 +21,11 @@ use Rattle.zair_state.specs.Performs.{listed_steps}
 use Rattle.zair_state.specs.Run.{IsLegalRun, log_of}
 use Rattle.zair_state.specs.State.{opening}
 use Rattle.zac_plan.specs.Growth.{IsStagingOf}
-use Rattle.zac_plan.specs.Plan.{home, homes_for, plan, acts_from, reads_in, reads_act}
-use Rattle.zac_plan.proofs.Acts.{IsPart, all_part, may_come}
+use Rattle.zac_plan.specs.Plan.{AreRounds, home, homes_for, reads_in, reads_act}
+use Rattle.zac_plan.proofs.Acts.{IsPart, may_come}
 use Rattle.zac_plan.proofs.Logs.{AreOnes, ArePairs, acts_log, entries_at, performed, plan_log}
 use Rattle.zac_plan.proofs.Placing.{home_is}
-use Rattle.zac_plan.proofs.Staged.{pulses_fit}
 use Rattle.zac_plan.proofs.Turns.{pulses_are_pairs, slots_are_ones, stages_realise}
-
--- what comes behind the first instruction
-abbrev behind : Architecture → NativeCircuit → List (List ℕ) → List (List ℕ) → List Act
-behind a c slots pulses = acts_from a c.ops [] slots pulses ++ reads_act (reads_in c.ops)
 
 come_of : (is : List Instr) → IsTrue (list_all may_come (map (λ i. i.act) is)) → IsTrue (list_all may_follow is)
 come_of [] h = h
@@ -40,7 +34,7 @@ come_of (i ∷ is) h =
     and_from (may_follow i) (list_all may_follow is) parts.0 (come_of is parts.1)
 
 -- the homes are distinct storage traps
-are_homes : (a : Architecture) (n : ℕ) → n ≤ storage_count a → AreHomes a n (homes_for n)
+pub are_homes : (a : Architecture) (n : ℕ) → n ≤ storage_count a → AreHomes a n (homes_for n)
 are_homes a n fit = record {
   each = length-map-range_with_len home 0 n;
   in_storage = λ k d within.
@@ -80,43 +74,34 @@ module _ (n : ℕ) (acts : List Act) where
   steps_from program e = steps_from_acts program ∙ ap (λ (l : List Act). flat_map (λ act. steps_of act) l) e
 
 -- what is said of the plan behind its homes
-module _ (a : Architecture) (c : NativeCircuit) (s : Staging) (rules : KeepsRules a) (fit : c.qubits ≤ storage_count a) (valid : IsValid c) (of : IsStagingOf a c s) where
-  in_range : (k : ℕ) (what : Op) → slice_get c.ops k ≡ Some what → IsInRange c.qubits c.bits what
-  in_range k what at = (valid k what at).in_range
-
-  part : (last : List TrapId) × IsPart a (homes_for c.qubits) (behind a c s.gates s.pairs) last
-  part =
-      let whole = all_part a rules c.qubits fit c.bits c.ops in_range s.gates s.pairs (pulses_fit a c s valid of) in
-      (_, whole.1)
-
-  log : acts_log (behind a c s.gates s.pairs) ≡ entries_at c.ops (performed c.ops s.gates s.pairs)
+module _ (a : Architecture) (c : NativeCircuit) (s : Staging) (fit : c.qubits ≤ storage_count a) (of : IsStagingOf a c s) (rounds : List Act)
+    (are : AreRounds a c.ops [] s.gates s.pairs rounds) (last : List TrapId) (part : IsPart a (homes_for c.qubits) (rounds ++ reads_act (reads_in c.ops)) last) where
+  log : acts_log (rounds ++ reads_act (reads_in c.ops)) ≡ entries_at c.ops (performed c.ops s.gates s.pairs)
   log =
-      plan_log a c.ops s.gates s.pairs
+      plan_log a c.ops s.gates s.pairs rounds are
       (subst (λ (d : NativeCircuit). AllByRecursion (AreOnes d.ops) s.gates) of.circuit (slots_are_ones s of.right))
       (subst (λ (d : NativeCircuit). AllByRecursion (ArePairs d.ops) s.pairs) of.circuit (pulses_are_pairs s of.right))
 
-  realised : Realises c.ops (acts_log (behind a c s.gates s.pairs))
+  realised : Realises c.ops (acts_log (rounds ++ reads_act (reads_in c.ops)))
   realised =
       subst (λ (l : List Entry). Realises c.ops l) (sym log)
       (subst (λ (d : NativeCircuit). Realises d.ops (entries_at d.ops (performed d.ops s.gates s.pairs))) of.circuit (stages_realise s of.right of.follow))
 
-  pub program_from_plan : (program : List Instr) → map (λ i. i.act) program ≡ plan a c s.gates s.pairs → IsTrue (is_program program)
-  program_from_plan program does = program_from c.qubits (behind a c s.gates s.pairs) program part.1.come does
-
   -- so a chain that does it keeps what a safe chain has to keep
-  pub plan_is_safe : (program : List Instr) → HasFigureRanges a.figures → IsChain a.figures 0 program → map (λ i. i.act) program ≡ plan a c s.gates s.pairs → IsSafeChain a c program
+  pub plan_is_safe : (program : List Instr) → HasFigureRanges a.figures → IsChain a.figures 0 program →
+      map (λ i. i.act) program ≡ Init (homes_for c.qubits) ∷ (rounds ++ reads_act (reads_in c.ops)) → IsSafeChain a c program
   plan_is_safe program ranges chain does =
-      let acts : List Act = behind a c s.gates s.pairs in
+      let acts : List Act = rounds ++ reads_act (reads_in c.ops) in
       let at_home = homes_from c.qubits acts program does in
       let steps = steps_from c.qubits acts program does in
       record {
         ranges = ranges;
-        form = program_from_plan program does;
+        form = program_from c.qubits acts program part.come does;
         homes = subst (λ (l : List TrapId). AreHomes a c.qubits l) (sym at_home) (are_homes a c.qubits fit);
         chain = chain;
-        moves = from_acts program (subst (AllByRecursion MovesGoSomewhere) (sym does) (tt, part.1.go));
+        moves = from_acts program (subst (AllByRecursion MovesGoSomewhere) (sym does) (tt, part.go));
         legal =
             subst (λ (l : List TrapId). IsLegalRun a (opening a l) (listed_steps program)) (sym at_home)
-            (subst (λ (l : List Step). IsLegalRun a (opening a (homes_for c.qubits)) l) (sym steps) part.1.leads.legal);
+            (subst (λ (l : List Step). IsLegalRun a (opening a (homes_for c.qubits)) l) (sym steps) part.leads.legal);
         realises = subst (λ (l : List Step). Realises c.ops (log_of l)) (sym steps) realised;
       }

@@ -1,20 +1,21 @@
--- Phases: shifts one after another lead from one state at rest to the next.
+-- Where atoms rest after shifts, and which shifts can be made together.
 use Rattle.std.proofs.Common.{◌≡◌, ◌≢◌, ℕ, ◌⊎◌, inl, inr, List, [], ◌∷◌, ◌++◌, Some, get_or, set, map, refl, sym, ap, ◌∙◌, subst, arith, slice_get}
-use Rattle.std.specs.List.{AllPairs, Contains, flat_map}
+use Rattle.std.specs.List.{AllPairs, Contains}
+use Rattle.std.specs.List.Sorted.{IsPermutation}
 use Rattle.std.proofs.lemmas.Bool.{cases_eq}
-use Rattle.std.proofs.lemmas.List.Elements.{Contains-get_or}
+use Rattle.std.proofs.lemmas.List.Elements.{Contains-append_left, Contains-get_or}
+use Rattle.std.proofs.lemmas.List.Sorted.{Contains-permutation, IsPermutation-sym}
 use Rattle.zac_arch.specs.Architecture.{Architecture}
-use Rattle.zac_arch.specs.Rules.{KeepsRules}
 use Rattle.zac_arch.specs.declared.place.TrapId.{TrapId}
 use Rattle.zair_form.specs.declared.step.Step.{Step}
-use Rattle.zair_form.specs.Steps.{steps_of}
 use Rattle.zair_state.specs.State.{State, opening}
 use Rattle.zair_state.specs.Result.{after}
 use Rattle.zair_state.specs.Run.{IsLegalRun, after_all}
-use Rattle.zac_plan.specs.declared.shift.Shift.{Shift}
-use Rattle.zac_plan.specs.Plan.{back, carries, carry_steps}
-use Rattle.zac_plan.proofs.Lists.{contained_in_none, contains_cases, contains_here, contains_later, contained_in_map, contains_map, pairs_head, pairs_tail, pairs_map, same_places, slice_get-set_same, slice_get-set_other}
-use Rattle.zac_plan.proofs.Rests.{CanShift, LeadsTo, carry_rests}
+use Rattle.zac_group.specs.declared.shift.Shift.{Shift}
+use Rattle.zac_plan.specs.Plan.{back}
+use Rattle.zac_plan.proofs.Lists.{contained_in_none, contains_cases, contains_here, contains_later, contained_in_map, contains_map, pairs_cons, pairs_head, pairs_none, pairs_tail, pairs_map, same_places, slice_get-set_same, slice_get-set_other}
+use Rattle.zac_plan.proofs.Rests.{CanShift, LeadsTo}
+use Rattle.zac_plan.proofs.Shuffled.{atoms_permute, targets_permute}
 
 pub legal-append : (a : Architecture) (s : State) (xs ys : List Step) → IsLegalRun a s xs → IsLegalRun a (after_all s xs) ys → IsLegalRun a s (xs ++ ys)
 legal-append a s [] ys h k = k
@@ -39,9 +40,9 @@ abbrev pub after_shifts : List TrapId → List Shift → List TrapId
 after_shifts traps [] = traps
 after_shifts traps (s ∷ ss) = after_shifts (set traps s.q s.to) ss
 
--- A phase from where atoms rest: each shift can be made, no atom is shifted twice, and no two go to one trap.
-pub record IsPhase (a : Architecture) (traps : List TrapId) (shifts : List Shift) : Type 0 where
-  pub each : (s : Shift) → Contains shifts s → CanShift a traps s
+-- Shifts can be made from where atoms rest: each of them can, no atom is shifted twice, and no two go to one trap.
+pub record CanMake (traps : List TrapId) (shifts : List Shift) : Type 0 where
+  pub each : (s : Shift) → Contains shifts s → CanShift traps s
   pub atoms : AllPairs (λ s t. s.q ≢ t.q) shifts
   pub targets : AllPairs (λ s t. s.to ≢ t.to) shifts
 
@@ -49,14 +50,14 @@ pub record IsPhase (a : Architecture) (traps : List TrapId) (shifts : List Shift
 some_same : (t u : TrapId) → Some t ≡ Some u → t ≡ u
 some_same t u e = cc
 
--- the first shift of a phase leaves a phase
-phase_tail : (a : Architecture) (traps : List TrapId) (s : Shift) (ss : List Shift) → IsPhase a traps (s ∷ ss) → IsPhase a (set traps s.q s.to) ss
-phase_tail a traps s ss phase = record {
+-- the first shift leaves the others possible
+make_tail : (traps : List TrapId) (s : Shift) (ss : List Shift) → CanMake traps (s ∷ ss) → CanMake (set traps s.q s.to) ss
+make_tail traps s ss can_make = record {
   each = λ t in_rest.
-      let first = phase.each s (contains_here s ss) in
-      let can = phase.each t (contains_later s t ss in_rest) in
-      let other : s.q ≢ t.q = pairs_head (λ (x y : Shift). x.q ≢ y.q) s ss phase.atoms t in_rest in
-      let elsewhere : s.to ≢ t.to = pairs_head (λ (x y : Shift). x.to ≢ y.to) s ss phase.targets t in_rest in
+      let first = can_make.each s (contains_here s ss) in
+      let can = can_make.each t (contains_later s t ss in_rest) in
+      let other : s.q ≢ t.q = pairs_head (λ (x y : Shift). x.q ≢ y.q) s ss can_make.atoms t in_rest in
+      let elsewhere : s.to ≢ t.to = pairs_head (λ (x y : Shift). x.to ≢ y.to) s ss can_make.targets t in_rest in
       record {
         rests = slice_get-set_other traps s.q t.q s.to (λ e. other (sym e)) ∙ can.rests;
         empty = λ k e. elim (cases_eq k s.q) as (λ _. ⊥) [
@@ -65,21 +66,33 @@ phase_tail a traps s ss phase = record {
               elsewhere (some_same s.to t.to (sym there ∙ ap (slice_get (set traps s.q s.to)) (sym same) ∙ e))
           | inr differ ↦ can.empty k (sym (slice_get-set_other traps s.q k s.to differ) ∙ e)
         ];
-        from_in = can.from_in;
-        to_in = can.to_in;
       };
-  atoms = pairs_tail (λ (x y : Shift). x.q ≢ y.q) s ss phase.atoms;
-  targets = pairs_tail (λ (x y : Shift). x.to ≢ y.to) s ss phase.targets;
+  atoms = pairs_tail (λ (x y : Shift). x.q ≢ y.q) s ss can_make.atoms;
+  targets = pairs_tail (λ (x y : Shift). x.to ≢ y.to) s ss can_make.targets;
 }
 
--- the jobs of a phase are legal, and lead to where its atoms rest then
-pub phase_leads : (a : Architecture) → KeepsRules a → (traps : List TrapId) (shifts : List Shift) → IsPhase a traps shifts →
-    LeadsTo a traps (flat_map (λ act. steps_of act) (carries a shifts)) (after_shifts traps shifts)
-phase_leads a rules traps [] phase = leads_nowhere a traps
-phase_leads a rules traps (s ∷ ss) phase =
-    leads-append a traps (set traps s.q s.to) (after_shifts (set traps s.q s.to) ss) (carry_steps a s) (flat_map (λ act. steps_of act) (carries a ss))
-    (carry_rests a rules traps s (phase.each s (contains_here s ss)))
-    (phase_leads a rules (set traps s.q s.to) ss (phase_tail a traps s ss phase))
+-- the first shifts of some
+pairs_left : (R : Shift → Shift → Type 0) (ss ts : List Shift) → AllPairs R (ss ++ ts) → AllPairs R ss
+pairs_left R [] ts h = pairs_none R
+pairs_left R (s ∷ ss) ts h =
+    pairs_cons R s ss (λ t listed. pairs_head R s (ss ++ ts) h t (Contains-append_left ss ts t listed))
+    (pairs_left R ss ts (pairs_tail R s (ss ++ ts) h))
+
+pub make_first : (traps : List TrapId) (ss ts : List Shift) → CanMake traps (ss ++ ts) → CanMake traps ss
+make_first traps ss ts can_make = record {
+  each = λ s listed. can_make.each s (Contains-append_left ss ts s listed);
+  atoms = pairs_left (λ (x y : Shift). x.q ≢ y.q) ss ts can_make.atoms;
+  targets = pairs_left (λ (x y : Shift). x.to ≢ y.to) ss ts can_make.targets;
+}
+
+-- they leave the others possible
+pub make_rest : (traps : List TrapId) (ss ts : List Shift) → CanMake traps (ss ++ ts) → CanMake (after_shifts traps ss) ts
+make_rest traps [] ts can_make = can_make
+make_rest traps (s ∷ ss) ts can_make = make_rest (set traps s.q s.to) ss ts (make_tail traps s (ss ++ ts) can_make)
+
+pub after_shifts-append : (traps : List TrapId) (ss ts : List Shift) → after_shifts traps (ss ++ ts) ≡ after_shifts (after_shifts traps ss) ts
+after_shifts-append traps [] ts = refl
+after_shifts-append traps (s ∷ ss) ts = after_shifts-append (set traps s.q s.to) ss ts
 
 -- an atom that no shift names stays
 pub after_shifts-other : (traps : List TrapId) (shifts : List Shift) (k : ℕ) → ((s : Shift) → Contains shifts s → s.q ≢ k) →
@@ -119,34 +132,57 @@ named_or_not (s ∷ ss) k = elim (cases_eq s.q k) [
   ]
 ]
 
+-- the order of shifts doesn't matter
+pub make_permuted : (traps : List TrapId) (ss ts : List Shift) → IsPermutation ss ts → CanMake traps ss → CanMake traps ts
+make_permuted traps ss ts permutes can_make = record {
+  each = λ s listed. can_make.each s (Contains-permutation ts ss s (IsPermutation-sym ss ts permutes) listed);
+  atoms = atoms_permute ss ts permutes can_make.atoms;
+  targets = targets_permute ss ts permutes can_make.targets;
+}
+
+module _ (traps : List TrapId) (ss ts : List Shift) (permutes : IsPermutation ss ts) (can_make : CanMake traps ss) where
+  permuted_at : (k : ℕ) → slice_get (after_shifts traps ss) k ≡ slice_get (after_shifts traps ts) k
+  permuted_at k = elim (named_or_not ss k) [
+    | inl found ↦
+        let s = found.0 in
+        let can = can_make.each s found.1 in
+        let there = after_shifts-there traps ss s s.from can_make.atoms found.1 can.rests in
+        let here = after_shifts-there traps ts s s.from (make_permuted traps ss ts permutes can_make).atoms (Contains-permutation ss ts s permutes found.1) can.rests in
+        subst (λ n. slice_get (after_shifts traps ss) n ≡ slice_get (after_shifts traps ts) n) found.2 (there ∙ sym here)
+    | inr none ↦
+        after_shifts-other traps ss k none
+        ∙ sym (after_shifts-other traps ts k (λ s listed. none s (Contains-permutation ts ss s (IsPermutation-sym ss ts permutes) listed)))
+  ]
+
+  pub after_permuted : after_shifts traps ss ≡ after_shifts traps ts
+  after_permuted = same_places (after_shifts traps ss) (after_shifts traps ts) permuted_at
+
 -- no two atoms rest in one trap
 abbrev pub RestApart : List TrapId → Type 0
 RestApart traps = (i j : ℕ) (t : TrapId) → slice_get traps i ≡ Some t → slice_get traps j ≡ Some t → i ≡ j
 
--- The way back of a phase.
-module _ (a : Architecture) (traps : List TrapId) (shifts : List Shift) (apart : RestApart traps) (phase : IsPhase a traps shifts) where
+-- The way back.
+module _ (traps : List TrapId) (shifts : List Shift) (apart : RestApart traps) (can_make : CanMake traps shifts) where
   -- a trap that a shift has left is empty
   left_empty : (s : Shift) → Contains shifts s → (k : ℕ) → slice_get (after_shifts traps shifts) k ≢ Some s.from
   left_empty s listed k e = elim (named_or_not shifts k) as (λ _. ⊥) [
     | inl found ↦
         let t = found.0 in
-        let can = phase.each t found.1 in
-        let there = after_shifts-there traps shifts t t.from phase.atoms found.1 can.rests in
+        let can = can_make.each t found.1 in
+        let there = after_shifts-there traps shifts t t.from can_make.atoms found.1 can.rests in
         let target : t.to ≡ s.from = some_same t.to s.from (sym there ∙ ap (slice_get (after_shifts traps shifts)) found.2 ∙ e) in
-        can.empty s.q ((phase.each s listed).rests ∙ ap (λ (x : TrapId). Some x) (sym target))
+        can.empty s.q ((can_make.each s listed).rests ∙ ap (λ (x : TrapId). Some x) (sym target))
     | inr none ↦
         let here : slice_get traps k ≡ Some s.from = sym (after_shifts-other traps shifts k none) ∙ e in
-        none s listed (sym (apart k s.q s.from here (phase.each s listed).rests))
+        none s listed (sym (apart k s.q s.from here (can_make.each s listed).rests))
   ]
 
-  can_return : (s : Shift) → Contains shifts s → CanShift a (after_shifts traps shifts) (back s)
+  can_return : (s : Shift) → Contains shifts s → CanShift (after_shifts traps shifts) (back s)
   can_return s listed =
-      let can = phase.each s listed in
+      let can = can_make.each s listed in
       record {
-        rests = after_shifts-there traps shifts s s.from phase.atoms listed can.rests;
+        rests = after_shifts-there traps shifts s s.from can_make.atoms listed can.rests;
         empty = left_empty s listed;
-        from_in = can.to_in;
-        to_in = can.from_in;
       }
 
   sources_apart : AllPairs (λ (s t : Shift). s.from ≢ t.from) shifts
@@ -155,16 +191,16 @@ module _ (a : Architecture) (traps : List TrapId) (shifts : List Shift) (apart :
       let t = get_or shifts j d in
       let s_in : Contains shifts s = Contains-get_or shifts i d (omega arith) in
       let t_in : Contains shifts t = Contains-get_or shifts j d within in
-      let s_rests = (phase.each s s_in).rests in
-      let t_rests = (phase.each t t_in).rests in
-      phase.atoms i j d before within (apart s.q t.q s.from s_rests (t_rests ∙ ap (λ (x : TrapId). Some x) (sym e)))
+      let s_rests = (can_make.each s s_in).rests in
+      let t_rests = (can_make.each t t_in).rests in
+      can_make.atoms i j d before within (apart s.q t.q s.from s_rests (t_rests ∙ ap (λ (x : TrapId). Some x) (sym e)))
 
-  pub phase_back : IsPhase a (after_shifts traps shifts) (map back shifts)
-  phase_back = record {
+  pub make_back : CanMake (after_shifts traps shifts) (map back shifts)
+  make_back = record {
     each = λ u listed.
         let behind = contained_in_map back shifts u listed in
-        subst (CanShift a (after_shifts traps shifts)) behind.2 (can_return behind.0 behind.1);
-    atoms = pairs_map (λ (x y : Shift). x.q ≢ y.q) back shifts phase.atoms;
+        subst (CanShift (after_shifts traps shifts)) behind.2 (can_return behind.0 behind.1);
+    atoms = pairs_map (λ (x y : Shift). x.q ≢ y.q) back shifts can_make.atoms;
     targets = pairs_map (λ (x y : Shift). x.to ≢ y.to) back shifts sources_apart;
   }
 
@@ -172,9 +208,9 @@ module _ (a : Architecture) (traps : List TrapId) (shifts : List Shift) (apart :
   back_at k = elim (named_or_not shifts k) [
     | inl found ↦
         let s = found.0 in
-        let can = phase.each s found.1 in
-        let rests = after_shifts-there traps shifts s s.from phase.atoms found.1 can.rests in
-        let there = after_shifts-there (after_shifts traps shifts) (map back shifts) (back s) s.to phase_back.atoms (contains_map back shifts s found.1) rests in
+        let can = can_make.each s found.1 in
+        let rests = after_shifts-there traps shifts s s.from can_make.atoms found.1 can.rests in
+        let there = after_shifts-there (after_shifts traps shifts) (map back shifts) (back s) s.to make_back.atoms (contains_map back shifts s found.1) rests in
         subst (λ n. slice_get (after_shifts (after_shifts traps shifts) (map back shifts)) n ≡ slice_get traps n) found.2 (there ∙ sym can.rests)
     | inr none ↦
         after_shifts-other (after_shifts traps shifts) (map back shifts) k

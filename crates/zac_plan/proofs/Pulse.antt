@@ -1,8 +1,7 @@
 -- A pulse is legal where each of its pairs rests at a site of its own, and all other atoms in storage.
 use Rattle.std.proofs.Common.{◌≡◌, ◌≢◌, ℕ, ◌+◌, ◌-◌, ◌*◌, ◌<◌, ◌≤◌, ◌⊎◌, inl, inr, List, Some, length, get_or, refl, sym, ap, ◌∙◌, subst, arith, slice_get, add_comm}
 use Rattle.std.specs.List.{AllPairs, Any, Contains}
-use Rattle.std.proofs.lemmas.Option.{slice_get-map, slice_get-get_or}
-use Rattle.std.specs.Option.{option_map}
+use Rattle.std.proofs.lemmas.Option.{slice_get-get_or}
 use Rattle.zac_arch.specs.Architecture.{Architecture, trap_count, storage_count, site_count, left_trap, right_trap, IsTrapOf}
 use Rattle.zac_arch.specs.Distances.{difference, squared_distance, IsWithin}
 use Rattle.zac_arch.specs.Rules.{KeepsRules}
@@ -11,13 +10,12 @@ use Rattle.zac_arch.specs.declared.place.TrapId.{TrapId}
 use Rattle.zac_arch.proofs.Geometry.{storage_dark, entangling_lit, site_within, one_site, trap_count_is}
 use Rattle.zair_form.specs.declared.step.PairOf.{PairOf}
 use Rattle.zair_form.specs.declared.step.Step.TheVariants.{Pulse}
-use Rattle.zair_state.specs.declared.place.Place.TheVariants.{Trap}
-use Rattle.zair_state.specs.State.{State, Beams, idle, opening, IsAt, RestsLit, AreInRange, beams_of}
+use Rattle.zair_state.specs.State.{State, Beams, opening, RestsLit, AreInRange}
 use Rattle.zair_state.specs.Legal.{IsLegal, IsPairOf}
-use Rattle.zac_plan.specs.Plan.{point_at, left, right}
+use Rattle.zac_group.specs.Moves.{point_at}
+use Rattle.zac_plan.specs.Plan.{left, right}
 use Rattle.zac_plan.proofs.Lists.{any_from_contained, contained_in_none, contains_at}
-use Rattle.zac_plan.proofs.Carry.{in_trap, idle_at}
-use Rattle.zac_plan.proofs.Rests.{stands_at}
+use Rattle.zac_plan.proofs.Rests.{no_beam, rests_in, rests_only_in, stands_at}
 
 difference_comm : (m n : ℕ) → difference m n ≡ difference n m
 difference_comm m n = add_comm (m - n) (n - m)
@@ -41,17 +39,6 @@ in_range_comm a s q r h = record {
   r_rests = h.q_rests;
   near = within_comm a.figures.radius h.q_at h.r_at h.near;
 }
-
--- an atom rests in this trap
-pub rests_in : (a : Architecture) (traps : List TrapId) (q : ℕ) (t : TrapId) → slice_get traps q ≡ Some t → IsAt (opening a traps) q (Trap t)
-rests_in a traps q t h = slice_get-map (λ u. Trap u) traps q ∙ ap (option_map (λ u. Trap u)) h
-
-pub rests_only_in : (a : Architecture) (traps : List TrapId) (q : ℕ) (t : TrapId) → IsAt (opening a traps) q (Trap t) → slice_get traps q ≡ Some t
-rests_only_in a traps q t h = in_trap (slice_get traps q) t (sym (slice_get-map (λ u. Trap u) traps q) ∙ h)
-
--- no AOD has a beam in a state at rest
-pub no_beam : (a : Architecture) (traps : List TrapId) (aod : ℕ) → beams_of (opening a traps) aod ≡ idle
-no_beam a traps aod = idle_at a.figures.aods aod
 
 -- the atoms of a pair rest in the two traps of this site
 abbrev pub IsSeated : Architecture → List TrapId → ℕ → PairOf → Type 0

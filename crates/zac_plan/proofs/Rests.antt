@@ -1,57 +1,48 @@
--- The carry of one atom from one state at rest to the next.
-use Rattle.std.proofs.Common.{◌≡◌, ◌≢◌, ℕ, zero, suc, pred, ◌<◌, ◌≤◌, List, Some, set, replicate, refl, sym, ap, ◌∙◌, subst, arith, slice_get, map}
-use Rattle.std.proofs.lemmas.Option.{slice_get-get_or}
+-- States at rest: each atom in a trap, and no AOD with a beam.
+use Rattle.std.proofs.Common.{◌≡◌, ◌≢◌, ℕ, zero, suc, ◌<◌, List, Option, Some, None, refl, sym, ap, ◌∙◌, slice_get}
+use Rattle.std.specs.List.{slice_index_or}
+use Rattle.std.specs.Option.{option_map}
+use Rattle.std.proofs.lemmas.Option.{slice_get-get_or, slice_get-map}
+use Rattle.std.specs.Prelude.{replicate}
 use Rattle.zac_arch.specs.Architecture.{Architecture, trap_points, trap_count, StandsAt}
-use Rattle.zac_arch.specs.Rules.{KeepsRules}
 use Rattle.zac_arch.specs.declared.place.TrapId.{TrapId}
-use Rattle.zac_arch.proofs.Geometry.{figure_ranges, on_the_field}
+use Rattle.zac_group.specs.Moves.{point_at}
+use Rattle.zac_group.specs.declared.shift.Shift.{Shift}
 use Rattle.zair_form.specs.declared.step.Step.{Step}
 use Rattle.zair_state.specs.declared.place.Place.TheVariants.{Trap}
-use Rattle.zair_state.specs.State.{State, idle, opening}
+use Rattle.zair_state.specs.State.{beams_of, idle, opening, IsAt}
 use Rattle.zair_state.specs.Run.{IsLegalRun, after_all}
-use Rattle.zac_plan.specs.declared.shift.Shift.{Shift}
-use Rattle.zac_plan.specs.Plan.{point_at, carry_steps}
-use Rattle.zac_plan.proofs.Carry.{resting, run, result}
+
+idle_at : (m k : ℕ) → slice_index_or (replicate m idle) k idle ≡ idle
+idle_at zero k = refl
+idle_at (suc m) zero = refl
+idle_at (suc m) (suc k) = idle_at m k
+
+in_trap : (o : Option TrapId) (t : TrapId) → option_map (λ u. Trap u) o ≡ Some (Trap t) → o ≡ Some t
+in_trap None t e = cc
+in_trap (Some u) t e = let same : u ≡ t = cc in ap (λ (x : TrapId). Some x) same
 
 -- a trap stands where its number says
 pub stands_at : (a : Architecture) (t : TrapId) → t.0 < trap_count a → StandsAt a t.0 (point_at a t)
 stands_at a t within = slice_get-get_or (trap_points a) t.0 _ within
 
-some_aod : (n : ℕ) → 1 ≤ n → n ≡ suc (pred n)
-some_aod zero h = absurd (omega arith)
-some_aod (suc n) h = refl
+-- an atom rests in this trap
+pub rests_in : (a : Architecture) (traps : List TrapId) (q : ℕ) (t : TrapId) → slice_get traps q ≡ Some t → IsAt (opening a traps) q (Trap t)
+rests_in a traps q t h = slice_get-map (λ u. Trap u) traps q ∙ ap (option_map (λ u. Trap u)) h
 
--- with an AOD at least, a state at rest is one with AOD 0 and others
-pub rests_with_others : (a : Architecture) (traps : List TrapId) → KeepsRules a → opening a traps ≡ resting (pred a.figures.aods) traps
-rests_with_others a traps rules =
-    ap (λ n. record { places = map (λ t. Trap t) traps; aods = replicate n idle }) (some_aod a.figures.aods (figure_ranges a rules).aods_least)
+pub rests_only_in : (a : Architecture) (traps : List TrapId) (q : ℕ) (t : TrapId) → IsAt (opening a traps) q (Trap t) → slice_get traps q ≡ Some t
+rests_only_in a traps q t h = in_trap (slice_get traps q) t (sym (slice_get-map (λ u. Trap u) traps q) ∙ h)
+
+-- no AOD has a beam in a state at rest
+pub no_beam : (a : Architecture) (traps : List TrapId) (aod : ℕ) → beams_of (opening a traps) aod ≡ idle
+no_beam a traps aod = idle_at a.figures.aods aod
 
 -- the steps are legal from a state at rest, and lead to another state at rest
 pub record LeadsTo (a : Architecture) (traps : List TrapId) (steps : List Step) (traps' : List TrapId) : Type 0 where
   pub legal : IsLegalRun a (opening a traps) steps
   pub leaves : after_all (opening a traps) steps ≡ opening a traps'
 
--- the shift's atom rests in its trap, its target is empty, and both traps exist
-pub record CanShift (a : Architecture) (traps : List TrapId) (s : Shift) : Type 0 where
+-- the shift's atom rests in its trap, and its target is empty
+pub record CanShift (traps : List TrapId) (s : Shift) : Type 0 where
   pub rests : slice_get traps s.q ≡ Some s.from
   pub empty : (k : ℕ) → slice_get traps k ≢ Some s.to
-  pub from_in : s.from.0 < trap_count a
-  pub to_in : s.to.0 < trap_count a
-
-pub carry_rests : (a : Architecture) → KeepsRules a → (traps : List TrapId) (s : Shift) → CanShift a traps s → LeadsTo a traps (carry_steps a s) (set traps s.q s.to)
-carry_rests a rules traps s can =
-    let ranges = figure_ranges a rules in
-    let m : ℕ = pred a.figures.aods in
-    let p = stands_at a s.from can.from_in in
-    let r = stands_at a s.to can.to_in in
-    let p_on = on_the_field a rules s.from.0 (point_at a s.from) p in
-    let r_on = on_the_field a rules s.to.0 (point_at a s.to) r in
-    let before = rests_with_others a traps rules in
-    let behind = rests_with_others a (set traps s.q s.to) rules in
-    let steps : List Step = carry_steps a s in
-    let legal : IsLegalRun a (resting m traps) steps = run a m traps s.q s.from s.to (point_at a s.from) (point_at a s.to) ranges.rows_least ranges.columns_least can.rests p r (omega arith) (omega arith) (omega arith) (omega arith) can.empty in
-    let leaves : after_all (resting m traps) steps ≡ resting m (set traps s.q s.to) = result a m traps s.q s.from s.to (point_at a s.from) (point_at a s.to) ranges.rows_least ranges.columns_least can.rests p r (omega arith) (omega arith) (omega arith) (omega arith) can.empty in
-    record {
-      legal = subst (λ (s : State). IsLegalRun a s steps) (sym before) legal;
-      leaves = ap (λ (s : State). after_all s steps) before ∙ leaves ∙ sym behind;
-    }

@@ -1,15 +1,12 @@
--- The arrivals of a pulse: where each of its atoms goes, and in which order.
+-- The arrivals of a pulse: where each of its atoms goes.
 use Rattle.std.proofs.Common.{◌≡◌, ◌≢◌, ℕ, zero, suc, ◌+◌, ◌*◌, ◌<◌, ◌≤◌, ◌⊎◌, inl, inr, Bool, true, false, cond, List, [], ◌∷◌, ◌++◌, Some, length, get_or, take, refl, sym, ap, ◌∙◌, subst, append_assoc, arith, slice_get}
 use Rattle.std.specs.List.{AllPairs, Contains}
 use Rattle.std.proofs.lemmas.List.{length-take-le, take_more}
-use Rattle.std.proofs.lemmas.Option.{slice_get_within}
-use Rattle.zac_arch.specs.Architecture.{Architecture, trap_count, site_count, left_trap, right_trap}
-use Rattle.zac_arch.specs.Rules.{KeepsRules}
+use Rattle.std.proofs.lemmas.List.Elements.{Contains-get_or}
+use Rattle.zac_arch.specs.Architecture.{Architecture, site_count, left_trap, right_trap}
 use Rattle.zac_arch.specs.declared.place.TrapId.{TrapId}
-use Rattle.zac_arch.proofs.Geometry.{trap_count_is}
 use Rattle.zair_form.specs.declared.step.PairOf.{PairOf}
-use Rattle.zac_plan.specs.declared.shift.Shift.{Shift}
-use Rattle.zac_plan.specs.Growth.{HasTraps}
+use Rattle.zac_group.specs.declared.shift.Shift.{Shift}
 use Rattle.zac_plan.specs.Plan.{home, left, right, comes_before, left_qubit, right_qubit, to_sites}
 use Rattle.zac_plan.proofs.Lists.{contained_in_none, contains_cases, contains_here, contains_later, contains_at, pairs_head, pairs_tail, pairs_none, pairs_cons}
 
@@ -158,6 +155,18 @@ atoms_apart a n site (p ∷ ps) each apart =
     ])
     (pairs_cons (λ (s t : Shift). s.q ≢ t.q) (goes_right a site p) (to_sites a (site + 1) ps) (λ s listed. (later s listed).1) rest)
 
+-- no two come from one trap
+pub sources_apart : (a : Architecture) (site : ℕ) (pairs : List PairOf) → AllPairs (λ (s t : Shift). s.q ≢ t.q) (to_sites a site pairs) →
+    AllPairs (λ (s t : Shift). s.from ≢ t.from) (to_sites a site pairs)
+sources_apart a site pairs apart i j d before within e =
+    let s = get_or (to_sites a site pairs) i d in
+    let t = get_or (to_sites a site pairs) j d in
+    let s_of = of_pair a site pairs s (Contains-get_or (to_sites a site pairs) i d (omega arith)) in
+    let t_of = of_pair a site pairs t (Contains-get_or (to_sites a site pairs) j d within) in
+    let s_from = source_of a (site + s_of.place) s_of.pair s s_of.is in
+    let t_from = source_of a (site + t_of.place) t_of.pair t t_of.is in
+    apart i j d before within (ap (λ (x : TrapId). x.0) (sym s_from ∙ e ∙ t_from))
+
 -- no two go to one trap
 pub targets_apart : (a : Architecture) (site : ℕ) (pairs : List PairOf) → AllPairs (λ (s t : Shift). s.to ≢ t.to) (to_sites a site pairs)
 targets_apart a site [] = pairs_none (λ (s t : Shift). s.to ≢ t.to)
@@ -210,27 +219,6 @@ seats_more a pairs k d before after within e pushed =
     ∙ ap (λ n. to_sites a 0 (take k pairs) ++ goes_left a n p ∷ goes_right a n p ∷ []) (sym size)
     ∙ sym (to_sites-append a 0 (take k pairs) p)
     ∙ ap (to_sites a 0) (sym (take_more pairs k d within))
-
--- both traps of each shift exist
-pub seats_have_traps : (a : Architecture) → KeepsRules a → (pairs : List PairOf) → length pairs ≤ site_count a → ((p : PairOf) → Contains pairs p → (p.a < trap_count a) × (p.b < trap_count a)) →
-    (s : Shift) → Contains (to_sites a 0 pairs) s → HasTraps a s
-seats_have_traps a rules pairs few homes s listed =
-    let of = of_pair a 0 pairs s listed in
-    let within : of.place < length pairs = slice_get_within pairs of.place of.pair of.at in
-    let both = homes of.pair (pair_contained pairs of.place of.pair of.at) in
-    let either = side_has a of.pair (λ m. m < trap_count a) both.0 both.1 in
-    let qubit : s.q < trap_count a =
-    elim (qubit_of a (0 + of.place) of.pair s of.is) as (λ _. s.q < trap_count a) [
-      | inl e ↦ subst (λ m. m < trap_count a) (sym e) either.0
-      | inr e ↦ subst (λ m. m < trap_count a) (sym e) either.1
-    ] in
-    let from : s.from.0 ≡ s.q = ap (λ (t : TrapId). t.0) (source_of a (0 + of.place) of.pair s of.is) in
-    let to : s.to.0 < trap_count a =
-    elim (target_of a (0 + of.place) of.pair s of.is) as (λ _. s.to.0 < trap_count a) [
-      | inl e ↦ omega (arith, trap_count_is a rules)
-      | inr e ↦ omega (arith, trap_count_is a rules)
-    ] in
-    (omega arith, to)
 
 same_trap : (t u : TrapId) → t.0 ≡ u.0 → t ≡ u
 same_trap t u e = λ i. record { 0 = e i }

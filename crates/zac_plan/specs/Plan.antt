@@ -1,44 +1,24 @@
 -- The plan of a circuit: which instructions come, and what each does.
 use Rattle.std.specs.Prelude.{◌≡◌, ℕ, ◌+◌, Bool, ◌&&◌, ◌||◌, ◌==◌, nat_lt, Option, Some, None, List, [], ◌∷◌, ◌++◌, length, map, if◌then◌else◌}
-use Rattle.std.specs.List.{filter_map, range_with_len, slice_get, slice_index_or}
+use Rattle.std.specs.List.{filter_map, range_with_len, slice_get}
 use Rattle.std.specs.Option.{option_and_then}
-use Rattle.zac_arch.specs.Architecture.{Architecture, trap_points, site_count, left_trap, right_trap}
-use Rattle.zac_arch.specs.declared.place.Point.{Point}
+use Rattle.zac_aod.specs.Lowering.{job_steps}
+use Rattle.zac_arch.specs.Architecture.{Architecture, site_count, left_trap, right_trap}
 use Rattle.zac_arch.specs.declared.place.TrapId.{TrapId}
 use Rattle.zac_gates.specs.Ops.{NativeCircuit}
 use Rattle.zac_gates.specs.declared.circuit.Op.{Op}
 use Rattle.zac_gates.specs.declared.circuit.Op.TheVariants as op
-use Rattle.zac_plan.specs.declared.shift.Shift.{Shift}
+use Rattle.zac_group.specs.FirstFit.{IsGrouping}
+use Rattle.zac_group.specs.Groups.{MoveGroup}
+use Rattle.zac_group.specs.Moves.{point_at}
+use Rattle.zac_group.specs.declared.shift.Shift.{Shift}
 use Rattle.zac_stage.specs.Staging.{Staging, IsStaging}
-use Rattle.zair_form.specs.declared.step.Beam.{Beam}
 use Rattle.zair_form.specs.declared.step.OneGate.{OneGate}
 use Rattle.zair_form.specs.declared.step.PairOf.{PairOf}
 use Rattle.zair_form.specs.declared.step.ReadOf.{ReadOf}
-use Rattle.zair_form.specs.declared.step.Step.{Step}
-use Rattle.zair_form.specs.declared.step.Step.TheVariants.{Activate, Move, Deactivate}
 use Rattle.zair_form.specs.declared.program.Act.{Act}
 use Rattle.zair_form.specs.declared.program.Act.TheVariants.{Init, Gates, Rydberg, Job, Readout}
 use Rattle.zair_form.specs.declared.program.Instr.{Instr}
-
--- Where a trap stands; (0,0) where there is no such trap.
-abbrev pub point_at : Architecture → TrapId → Point
-point_at a t = slice_index_or (trap_points a) t.0 (record { x = 0; y = 0 })
-
--- The one beam, of id 0, that carries an atom, at this position.
-abbrev pub carrier : ℕ → List Beam
-carrier at = record { id = 0; at = at } ∷ []
-
--- AOD 0 catches the atom of a shift in its trap, moves it to the other trap, and drops it there.
-abbrev pub carry_steps : Architecture → Shift → List Step
-carry_steps a s =
-    Activate 0 (carrier (point_at a s.from).y) (carrier (point_at a s.from).x) (record { q = s.q; row = 0; column = 0 } ∷ [])
-    ∷ Move 0 (carrier (point_at a s.to).y) (carrier (point_at a s.to).x)
-    ∷ Deactivate 0 (0 ∷ []) (0 ∷ []) (record { q = s.q; trap = s.to } ∷ [])
-    ∷ []
-
--- The job of AOD 0 with those steps.
-abbrev pub carry : Architecture → Shift → Act
-carry a s = Job 0 (carry_steps a s)
 
 -- A qubit's home: the trap of the qubit's number.
 abbrev pub home : ℕ → TrapId
@@ -78,25 +58,15 @@ to_sites a site (p ∷ ps) =
     ∷ record { q = right_qubit a p; from = home (right_qubit a p); to = right a site }
     ∷ to_sites a (site + 1) ps
 
--- The shifts with one more, put before the first shift of a greater qubit.
-abbrev pub with_shift : Shift → List Shift → List Shift
-with_shift s [] = s ∷ []
-with_shift s (t ∷ ts) = if nat_lt s.q t.q then s ∷ t ∷ ts else t ∷ with_shift s ts
-
--- The shifts by rising qubit.
-abbrev pub by_qubit : List Shift → List Shift
-by_qubit [] = []
-by_qubit (s ∷ ss) = with_shift s (by_qubit ss)
-
--- What brings the atoms of a pulse from their homes to the sites, by rising qubit: pair k goes to site k.
+-- What brings the atoms of a pulse from their homes to the sites: pair k goes to site k.
 abbrev pub arrivals : Architecture → List PairOf → List Shift
-arrivals a pairs = by_qubit (to_sites a 0 pairs)
+arrivals a pairs = to_sites a 0 pairs
 
 -- The way back.
 abbrev pub back : Shift → Shift
 back s = record { q = s.q; from = s.to; to = s.from }
 
--- What brings the atoms of a pulse from the sites to their homes, by rising qubit.
+-- What brings the atoms of a pulse from the sites to their homes.
 abbrev pub returns : Architecture → List PairOf → List Shift
 returns a pairs = map back (arrivals a pairs)
 
@@ -143,30 +113,48 @@ abbrev pub reads_act : List ReadOf → List Act
 reads_act [] = []
 reads_act (read ∷ reads) = Readout (read ∷ reads) ∷ []
 
--- One job for each shift.
-abbrev pub carries : Architecture → List Shift → List Act
-carries a shifts = map (carry a) shifts
+-- The job of AOD 0 that makes the moves of a group.
+abbrev pub job_of : Architecture → MoveGroup → Act
+job_of a g = Job 0 (job_steps a g.shifts 0)
 
--- What is done from a pulse on, where the atoms of the pulse before it are at the sites: the gates of its slot, the
--- returns of the pulse before it, its own arrivals, and the pulse; then so the next pulse. Behind the last pulse come
+-- The acts are the jobs of a phase of moves: one for each group of the moves, in the order of the groups. A phase without
+-- a move has no group, so no job.
+pub record AreJobs (a : Architecture) (shifts : List Shift) (acts : List Act) : Type 0 where
+  pub groups : List MoveGroup
+  pub grouping : IsGrouping a shifts groups
+  pub jobs : acts ≡ map (job_of a) groups
+
+-- What is done with a pulse, where the atoms of the pulse before it are at the sites: the gates of its slot, the jobs of
+-- the returns of the pulse before it, the jobs of its own arrivals, and the pulse.
+pub record IsRound (a : Architecture) (ops : List Op) (before : List PairOf) (slot pulse : List ℕ) (acts : List Act) : Type 0 where
+  pub return_jobs : List Act
+  pub arrival_jobs : List Act
+  pub returned : AreJobs a (returns a before) return_jobs
+  pub arrived : AreJobs a (arrivals a (pairs_at ops pulse)) arrival_jobs
+  pub acts_are : acts ≡ gates_act (gates_at ops slot) ++ (return_jobs ++ (arrival_jobs ++ Rydberg (pairs_at ops pulse) ∷ []))
+
+-- The acts are what is done from a pulse on: its round, then that of the next pulse, and so on. Behind the last pulse come
 -- the gates of the last slot.
-abbrev pub acts_from : Architecture → List Op → List PairOf → List (List ℕ) → List (List ℕ) → List Act
-acts_from a ops before [] pulses = []
-acts_from a ops before (slot ∷ slots) [] = gates_act (gates_at ops slot) ++ acts_from a ops before slots []
-acts_from a ops before (slot ∷ slots) (pulse ∷ pulses) =
-    gates_act (gates_at ops slot) ++ (carries a (returns a before) ++ (carries a (arrivals a (pairs_at ops pulse))
-    ++ Rydberg (pairs_at ops pulse) ∷ acts_from a ops (pairs_at ops pulse) slots pulses))
+abbrev pub AreRounds : Architecture → List Op → List PairOf → List (List ℕ) → List (List ℕ) → List Act → Type 0
+AreRounds a ops before [] pulses acts = acts ≡ []
+AreRounds a ops before (slot ∷ slots) [] acts =
+    (rest : List Act) × (acts ≡ gates_act (gates_at ops slot) ++ rest) × AreRounds a ops before slots [] rest
+AreRounds a ops before (slot ∷ slots) (pulse ∷ pulses) acts =
+    (round : List Act) × (rest : List Act) × (acts ≡ round ++ rest)
+    × IsRound a ops before slot pulse round × AreRounds a ops (pairs_at ops pulse) slots pulses rest
 
--- The plan of a circuit whose one-qubit gates have these slots and whose pairs have these pulses, each given by the
--- numbers of its ops: the homes, the slots and pulses one after another, and all reads.
-abbrev pub plan : Architecture → NativeCircuit → List (List ℕ) → List (List ℕ) → List Act
-plan a c slots pulses = Init (homes_for c.qubits) ∷ (acts_from a c.ops [] slots pulses ++ reads_act (reads_in c.ops))
+-- The acts are the plan of a circuit whose one-qubit gates have these slots and whose pairs have these pulses, each given
+-- by the numbers of its ops: the homes, the rounds of the slots and pulses one after another, and all reads.
+pub record IsPlan (a : Architecture) (c : NativeCircuit) (slots pulses : List (List ℕ)) (acts : List Act) : Type 0 where
+  pub rounds : List Act
+  pub rounds_are : AreRounds a c.ops [] slots pulses rounds
+  pub acts_are : acts ≡ Init (homes_for c.qubits) ∷ (rounds ++ reads_act (reads_in c.ops))
 
 -- A program does the plan of a circuit on a card: with the circuit's stages, for pulses of at most as many pairs as the
--- card has sites. A circuit has one numbering, so this says all that the program does.
+-- card has sites. A circuit has one numbering, and moves have one grouping, so this says all that the program does.
 pub record IsPlanned (a : Architecture) (c : NativeCircuit) (program : List Instr) : Type 0 where
   pub stages : Staging
   pub right : IsStaging stages
   pub circuit : stages.circuit ≡ c
   pub sites : stages.sites ≡ site_count a
-  pub does : map (λ i. i.act) program ≡ plan a c stages.gates stages.pairs
+  pub does : IsPlan a c stages.gates stages.pairs (map (λ i. i.act) program)

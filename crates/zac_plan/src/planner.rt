@@ -3,21 +3,24 @@
 ghost use Rattle.std.specs.Prelude.{◌≡◌, ◌<◌, ◌≤◌, ◌↔◌, ◌⊎◌, IfOk, OnOk, IfErr, map, length, [], ◌∷◌, ◌++◌};
 ghost use Rattle.zac_arch.specs.Architecture.{storage_count, site_count};
 ghost use Rattle.zair_form.specs.Ranges.{ProgramFits};
-ghost use Rattle.zair_state.specs.Chain.{IsChain, end_of};
+ghost use Rattle.zair_state.specs.Chain.{IsChain, IsSafeChain, end_of};
 ghost use Rattle.zair_state.specs.Performs.{Performs};
 ghost use Rattle.zac_plan.specs.Growth.{ActsFit, IsStagingOf};
-ghost use Rattle.zac_plan.specs.Plan.{plan, homes_for, IsPlanned};
+ghost use Rattle.zac_plan.specs.Plan.{homes_for, IsPlan, IsPlanned};
 
 use crate::slots::{gates_at, reads_in};
 use crate::timeline::Timeline;
 use std::alloc::Global;
 use thiserror::Error;
+use zac_aod::job_limits;
 use zac_arch::{Card, TrapId};
 use zac_gates::{Circuit, List, Memory};
 use zac_stage::laws::{numbers_follow, pulses_are_filled};
 use zac_stage::{Stages, stage};
 use zair_form::{Instr, Program};
-use zair_state::{chains_end_last, safe_chains_perform};
+use zair_state::{
+    chains_end_last, legal_steps_keep_states_sound, openings_are_sound, safe_chains_perform,
+};
 
 /// Why a circuit has no program.
 #[derive(Clone, Copy, Debug, PartialEq, Eq, Error)]
@@ -61,23 +64,25 @@ fn planned(
     requires stages { IsStagingOf card.now circuit.now stages.now }
     requires fits { circuit.now.qubits ≤ storage_count card.now }
     requires few { length circuit.now.ops ≤ 786432 }
-    ensures does { IfOk result (λ instrs. map (λ i. i.act) instrs.items
-        ≡ plan card.now circuit.now stages.now.gates stages.now.pairs) }
-    ensures chain { IfOk result (λ instrs. IsChain card.now.figures 0 instrs.items) }
+    ensures does { IfOk result (λ instrs. IsPlan card.now circuit.now stages.now.gates stages.now.pairs (map (λ i. i.act) instrs.items)) }
+    ensures safe { IfOk result (λ instrs. IsSafeChain card.now circuit.now instrs.items) }
     ensures ends { IfOk result (λ instrs. end_of 0 instrs.items ≤ 4000000000000000000) }
     ensures in_range { IfOk result (λ instrs. ActsFit instrs.items) }
 {
     // Its contract says that the card keeps all rules.
     let _figures = card.figures();
+    openings_are_sound();
+    legal_steps_keep_states_sound(card);
+    job_limits(card);
     let ops = circuit.ops();
     let homes = homes(alloc, circuit.qubits())?;
     let mut timeline = Timeline::starting(alloc, homes)?;
-    let mut at_sites = Vec::new(alloc);
+    let mut returning = List::of(Vec::new(alloc));
     let pulses = stages.pulses();
     for t in 0..pulses {
         let slot = stages.gates(t);
         let pulse = stages.pairs(t);
-        at_sites = timeline.add_round(alloc, card, ops, slot, pulse, at_sites.as_slice())?;
+        returning = timeline.add_round(alloc, card, ops, slot, pulse, returning)?;
     }
     let ones = gates_at(alloc, ops, stages.gates(pulses))?;
     timeline.add_gates(card, ones)?;
@@ -86,21 +91,17 @@ fn planned(
     Ok(timeline.instrs)
 }
 
-/// The program of these instructions, which are the plan of the circuit.
-fn program_of(card: &Card, circuit: &Circuit, stages: &Stages<'_>, instrs: Vec<Instr>) -> Program
-    requires stages { IsStagingOf card.now circuit.now stages.now }
-    requires fits { circuit.now.qubits ≤ storage_count card.now }
-    requires does { map (λ i. i.act) instrs.items ≡ plan card.now circuit.now stages.now.gates stages.now.pairs }
-    requires chain { IsChain card.now.figures 0 instrs.items }
+/// The program of these instructions, which perform the circuit.
+fn program_of(card: &Card, circuit: &Circuit, instrs: Vec<Instr>) -> Program
+    requires safe { IsSafeChain card.now circuit.now instrs.items }
     requires ends { end_of 0 instrs.items ≤ 4000000000000000000 }
     requires in_range { ActsFit instrs.items }
     ensures value { result ≡ instrs.items }
     ensures performs { Performs card.now circuit.now instrs.items }
     ensures ranges { ProgramFits instrs.items }
 {
-    // Their contracts say that the card keeps all rules, and that each op of the circuit is valid.
-    let _figures = card.figures();
-    let _ops = circuit.ops();
+    let _ = card;
+    let _ = circuit;
     chains_end_last();
     safe_chains_perform();
     match Program::new(List::of(instrs)) {
@@ -115,8 +116,9 @@ fn program_of(card: &Card, circuit: &Circuit, stages: &Stages<'_>, instrs: Vec<I
 /// Qubit q rests in trap q. The pairs of the circuit go into pulses of at most as many pairs as the card has sites,
 /// and its one-qubit gates into the slots between them, each as early as it can (`zac_stage`). Before a pulse come the
 /// gates of its slot, as one instruction; then the atoms of the pulse before it go home, and its own atoms come to the
-/// sites, by rising qubit, one job of AOD 0 each. Pair k of a pulse is at site k; of its two qubits the one whose home
-/// has the smaller x goes to the left trap, on equal x the one of smaller number. Behind the last pulse come the gates
+/// sites. The moves of each of these two phases are put into groups (`zac_group`), and each group is a job of AOD 0
+/// (`zac_aod`), in the order of the groups. Pair k of a pulse is at site k; of its two qubits the one whose home has the
+/// smaller x goes to the left trap, on equal x the one of smaller number. Behind the last pulse come the gates
 /// of the last slot, and then all reads as one instruction; no atom is moved there. Where there are no such gates or
 /// reads, the instruction is left out. The first instruction begins at moment 0, and each other one where the one
 /// before it ends.
@@ -124,7 +126,7 @@ fn program_of(card: &Card, circuit: &Circuit, stages: &Stages<'_>, instrs: Vec<I
 /// In the order of the list, and in every order that these times allow, each step is legal, each pulse brings
 /// within range exactly the pairs that it lists, and each op but the fences is performed once, after all that it
 /// must follow. All numbers and angles are in the ranges of the text form. The time that this call takes is in
-/// proportion to the ops, but for the order of the qubits of each pulse, which are sorted.
+/// proportion to the ops, but for the moves of each phase, which are sorted and put into groups.
 ///
 /// `TooManyQubits` comes exactly where the circuit has more qubits than the card has storage traps. `Memory` is
 /// the only other fault.
@@ -150,5 +152,5 @@ pub fn compile(alloc: Global, card: &Card, circuit: &Circuit) -> Result<Program,
     numbers_follow();
     pulses_are_filled();
     let instrs = planned(alloc, card, circuit, &stages)?;
-    Ok(program_of(card, circuit, &stages, instrs))
+    Ok(program_of(card, circuit, instrs))
 }

@@ -1,15 +1,14 @@
 //! How the atoms of a pulse come to the sites.
 
-ghost use Rattle.std.specs.Prelude.{◌≡◌, ◌≢◌, ◌*◌, ◌<◌, ◌≤◌, All, IfOk, length, map, vec_len};
-ghost use Rattle.std.specs.List.{AllPairs};
+ghost use Rattle.std.specs.Prelude.{◌≡◌, ◌*◌, ◌<◌, ◌≤◌, All, IfOk, length, map, vec_len};
 ghost use Rattle.zac_arch.specs.Architecture.{site_count, trap_count};
-ghost use Rattle.zac_plan.specs.Plan.{arrivals, back, comes_before, left_qubit, right_qubit, to_sites};
-ghost use Rattle.zac_plan.specs.Growth.{HasHomes, HasTraps};
+ghost use Rattle.zac_plan.specs.Plan.{arrivals, back, comes_before, left_qubit, right_qubit};
+ghost use Rattle.zac_plan.specs.Growth.{HasHomes};
 
-use crate::shift::Shift;
 use std::alloc::Global;
 use zac_arch::{Card, SiteId, TrapId};
 use zac_gates::Memory;
+use zac_group::Shift;
 use zair_form::PairOf;
 
 /// Whether a trap comes before another: it stands at a smaller x, or at the same x and has the smaller number.
@@ -36,11 +35,12 @@ fn sides(card: &Card, pair: &PairOf) -> (u32, u32)
     }
 }
 
-/// Each pair goes from its homes to a site of its own, from site 0 on.
-fn to_sites(alloc: Global, card: &Card, pairs: &[PairOf]) -> Result<Vec<Shift>, Memory>
+/// The moves that bring the atoms of pairs to the sites: each pair goes from its homes to a site of its own, from site 0 on.
+pub fn arrivals(alloc: Global, card: &Card, pairs: &[PairOf]) -> Result<Vec<Shift>, Memory>
     requires few { length pairs.now ≤ site_count card.now }
     requires homes { All (λ p. HasHomes card.now p) pairs.now }
-    ensures to_sites { IfOk result (λ shifts. shifts.items ≡ to_sites card.now 0 pairs.now) }
+    ensures arrivals { IfOk result (λ shifts. shifts.items ≡ arrivals card.now pairs.now) }
+    ensures two { IfOk result (λ shifts. vec_len shifts ≡ 2 * length pairs.now) }
 {
     // Its contract says that the card keeps all rules.
     let _figures = card.figures();
@@ -62,20 +62,15 @@ fn to_sites(alloc: Global, card: &Card, pairs: &[PairOf]) -> Result<Vec<Shift>, 
     Ok(shifts)
 }
 
-/// The same by rising qubit.
-pub fn arrivals(alloc: Global, card: &Card, pairs: &[PairOf]) -> Result<Vec<Shift>, Memory>
-    requires few { length pairs.now ≤ site_count card.now }
-    requires homes { All (λ p. HasHomes card.now p) pairs.now }
-    requires apart { AllPairs (λ s t. s.q ≢ t.q) (to_sites card.now 0 pairs.now) }
-    ensures arrivals { IfOk result (λ shifts. shifts.items ≡ arrivals card.now pairs.now) }
-    ensures traps { IfOk result (λ shifts. All (HasTraps card.now) shifts.items) }
-    ensures two { IfOk result (λ shifts. vec_len shifts ≡ 2 * length pairs.now) }
+/// The way back of a move.
+fn back(shift: &Shift) -> Shift
+    ensures { result ≡ back shift.now }
 {
-    // Its contract says that the card keeps all rules.
-    let _figures = card.figures();
-    let mut shifts = to_sites(alloc, card, pairs)?;
-    shifts.sort_by_key(|shift| shift.q)?;
-    Ok(shifts)
+    Shift {
+        q: shift.q,
+        from: shift.to,
+        to: shift.from,
+    }
 }
 
 /// The ways back.
@@ -85,7 +80,7 @@ pub fn ways_back(alloc: Global, shifts: &[Shift]) -> Result<Vec<Shift>, Memory>
 {
     let mut ways = Vec::with_capacity(alloc, shifts.len())?;
     for shift in shifts {
-        ways.push(shift.back())?;
+        ways.push(back(shift))?;
     }
     Ok(ways)
 }

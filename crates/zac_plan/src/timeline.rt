@@ -1,17 +1,17 @@
 //! Instructions that follow one another without a pause.
 
-ghost use Rattle.std.specs.Prelude.{◌≡◌, ℕ, ◌+◌, ◌*◌, ◌^◌, ◌<◌, ◌≤◌, All, OnOk, IfOk, [], ◌∷◌, ◌++◌, length, vec_len};
+ghost use Rattle.std.specs.Prelude.{◌≡◌, ℕ, ◌+◌, ◌*◌, ◌^◌, ◌<◌, ◌≤◌, OnOk, IfOk, [], ◌∷◌, ◌++◌, length, vec_len};
 ghost use Rattle.std.specs.List.{AllByRecursion};
-ghost use Rattle.zac_arch.specs.Architecture.{trap_count};
+ghost use Rattle.zac_group.specs.Groups.{IsPhase};
 ghost use Rattle.zair_form.specs.Ranges.{GateFits, PairFits, ReadFits};
-ghost use Rattle.zac_plan.specs.Growth.{GoesOn, HasTraps};
-ghost use Rattle.zac_plan.specs.Plan.{carries, carry, gates_act, reads_act};
+ghost use Rattle.zac_plan.specs.Growth.{GoesOn, GrowsByJobs, IsSoundGroup};
+ghost use Rattle.zac_plan.specs.Plan.{job_of, gates_act, reads_act};
 
-use crate::job::{flight, flight_time};
-use crate::shift::Shift;
 use std::alloc::Global;
+use zac_aod::lower;
 use zac_arch::{Card, TrapId};
 use zac_gates::{List, Memory};
+use zac_group::{Group, Shift, groups};
 use zair_form::{Act, Instr, OneGate, PairOf, ReadOf};
 
 /// The instructions so far, and when the last of them ends.
@@ -68,36 +68,38 @@ impl Timeline {
         Ok(())
     }
 
-    /// Adds the job that carries the atom of a shift.
-    fn add_carry(&mut self, alloc: Global, card: &Card, shift: Shift) -> Result<(), Memory>
-        requires traps { HasTraps card.now shift }
-        requires room { self.old.now + 3000000000 < 2 ^ 64 }
-        ensures ok { OnOk result (GoesOn card.now.figures self.old self.new (carry card.now shift ∷ [])) }
-        ensures most { OnOk result (self.new.now ≤ self.old.now + 3000000000) }
+    /// Adds the job that makes the moves of a group.
+    fn add_job(&mut self, alloc: Global, card: &Card, group: &Group) -> Result<(), Memory>
+        requires card { group.now.card ≡ card.now }
+        requires room { self.old.now + 4000000000 * length group.now.shifts < 2 ^ 64 }
+        ensures ok { OnOk result (GoesOn card.now.figures self.old self.new (job_of card.now group.now ∷ [])) }
+        ensures sound { OnOk result (IsSoundGroup card.now group.now) }
+        ensures most { OnOk result (self.new.now ≤ self.old.now + 4000000000 * length group.now.shifts) }
     {
-        let figures = card.figures();
-        let source = card.point(shift.from);
-        let target = card.point(shift.to);
-        let steps = flight(alloc, shift.q, source, target, shift.to)?;
-        let duration = flight_time(card, figures, source, target);
+        let job = lower(alloc, card, group)?;
+        let duration = job.duration();
+        // Its contract says that the steps are sound and in range.
+        let _steps = job.steps();
+        let steps = job.into_steps();
         self.push(duration, Act::Job { aod: 0, steps })?;
         Ok(())
     }
 
-    /// Adds the jobs that carry the atoms of these shifts, one after another.
-    pub fn add_carries(
+    /// Adds the jobs of a phase of moves, one for each of its groups, one after another.
+    pub fn add_jobs(
         &mut self,
         alloc: Global,
         card: &Card,
-        shifts: &[Shift],
+        shifts: List<Shift>,
     ) -> Result<(), Memory>
-        requires traps { All (HasTraps card.now) shifts.now }
-        requires room { self.old.now + 3000000000 * length shifts.now < 2 ^ 64 }
-        ensures ok { OnOk result (GoesOn card.now.figures self.old self.new (carries card.now shifts.now)) }
-        ensures most { OnOk result (self.new.now ≤ self.old.now + 3000000000 * length shifts.now) }
+        requires phase { IsPhase card.now shifts }
+        requires room { self.old.now + 4000000000 * length shifts < 2 ^ 64 }
+        ensures ok { OnOk result (GrowsByJobs card.now self.old self.new shifts) }
+        ensures most { OnOk result (self.new.now ≤ self.old.now + 4000000000 * length shifts) }
     {
-        for shift in shifts {
-            self.add_carry(alloc, card, *shift)?;
+        let groups = groups(alloc, card, shifts)?;
+        for group in groups.as_slice() {
+            self.add_job(alloc, card, group)?;
         }
         Ok(())
     }

@@ -18,6 +18,3 @@ staged c =
 
 pub planned-requires-clause-stages : goal.planned-requires-clause-stages
 planned-requires-clause-stages c = staged (goal.at.planned-requires-clause-stages c).After-pulses_are_filled
-
-pub program_of-requires-clause-stages : goal.program_of-requires-clause-stages
-program_of-requires-clause-stages c = staged (goal.at.program_of-requires-clause-stages c).After-pulses_are_filled

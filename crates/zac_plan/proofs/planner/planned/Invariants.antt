@@ -2,4 +2,4 @@ use Rattle.zac_plan.proofs.Planned.{DoesRounds}
 use Rattle.zac_plan.proofs.planner.planned.Given as goal
 
 abbrev pub invariant-loop-t : goal.invariant-loop-t
-invariant-loop-t l = DoesRounds l.card l.circuit l.stages l.initial.timeline l.timeline l.at_sites.items l.t
+invariant-loop-t l = DoesRounds l.card l.circuit l.stages l.initial.timeline l.timeline l.returning l.t

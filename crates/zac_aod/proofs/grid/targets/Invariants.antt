@@ -1,0 +1,6 @@
+use Rattle.std.proofs.Common.{◌≡◌, map, take}
+use Rattle.zac_aod.specs.declared.line.Line.{Line}
+use Rattle.zac_aod.proofs.grid.targets.Given as goal
+
+abbrev pub invariant-loop-line : goal.invariant-loop-line
+invariant-loop-line l = l.places.items ≡ map (λ (m : Line). m.to) (take l.line-index l.lines)
