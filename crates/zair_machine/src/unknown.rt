@@ -71,7 +71,7 @@ fn least_paired(pairs: &[PairOf], qubits: u32) -> Option<u32>
 
 impl<'a> Machine<'a> {
     /// How many qubits there are: at most 65,536.
-    pub(crate) fn qubits(&self) -> u32
+    pub fn qubits(&self) -> u32
         ensures { result ≡ length self.now.state.places }
     {
         let _ = &self.card;
