@@ -226,6 +226,29 @@ def plan(card, qubits, ops):
         yield timed({"type": "readout", "reads": reads}, figures["readout"])
 
 
+def tally(lines):
+    """The last line: what is counted in the lines of a program. A pair is kept where one of its qubits is in a pair of the last
+    `rydberg` line before and in no `deactivate` between the two."""
+    of = {kind: [line for line in lines if line["type"] == kind] for kind in ("init", "1qGate", "rydberg", "rearrangeJob", "readout")}
+    dropped = lambda line: [q for step in line.get("steps", []) if step["step"] == "deactivate" for q, _ in step["atoms"]]
+    pulses, kept = [k for k, line in enumerate(lines) if line["type"] == "rydberg"], 0
+    for last, this in zip(pulses, pulses[1:]):
+        stay = {q for _, *pair in lines[last]["pairs"] for q in pair} - {q for line in lines[last:this] for q in dropped(line)}
+        kept += sum(not stay.isdisjoint(pair) for _, *pair in lines[this]["pairs"])
+    return {
+        "type": "end",
+        "gates": sum(len(line["gates"]) for line in of["1qGate"]),
+        "jobs": len(of["rearrangeJob"]),
+        "kept": kept,
+        "moved": sum(len(dropped(line)) for line in of["rearrangeJob"]),
+        "pairs": sum(len(line["pairs"]) for line in of["rydberg"]),
+        "pulses": len(pulses),
+        "qubits": len(of["init"][0]["homes"]),
+        "reads": sum(len(line["reads"]) for line in of["readout"]),
+        "time": max(line["end"] for line in lines if "end" in line),
+    }
+
+
 def judged(card, source):
     """The status, the line on standard error, and the lines of the text, for the bytes of a card and of a source."""
     refusal = cards.answer(card)
@@ -241,7 +264,8 @@ def judged(card, source):
         return 11, "limit: %s %d\n" % fault.args, []
     if scope.qubits > card.storage:
         return 7, f"too many qubits: {scope.qubits} for {card.storage} traps\n", []
-    lines = plan(card, scope.qubits, ops)
+    lines = list(plan(card, scope.qubits, ops))
+    lines.append(tally(lines))
     return 0, "", [json.dumps(line, sort_keys=True, separators=(",", ":")) + "\n" for line in lines]
 
 

@@ -18,7 +18,7 @@ fn answer(alloc: Global, qubits: u32) -> Result<Result<Program, PlanFault>, Fail
 #[test]
 fn a_pair_has_a_plan(rt: HostRuntime) -> Result<(), Fail> {
     let program = answer(rt.alloc(), 2)??;
-    assert_eq!(rt; program.instrs().len(), 4);
+    assert_eq!(rt; program.instrs().len(), 3);
     Ok(())
 }
 
@@ -38,10 +38,10 @@ fn lines(alloc: Global, fenced: bool) -> Result<usize, Fail> {
 
 #[test]
 fn pairs_share_a_pulse(rt: HostRuntime) -> Result<(), Fail> {
-    // Homes, four arrivals, one pulse.
-    assert_eq!(rt; lines(rt.alloc(), false)?, 6);
-    // Homes, two arrivals, a pulse, two returns, two arrivals, a pulse.
-    assert_eq!(rt; lines(rt.alloc(), true)?, 9);
+    // Homes, the arrivals, one pulse.
+    assert_eq!(rt; lines(rt.alloc(), false)?, 3);
+    // Homes, the arrivals, a pulse, the returns, the arrivals, a pulse.
+    assert_eq!(rt; lines(rt.alloc(), true)?, 6);
     Ok(())
 }
 
