@@ -20,8 +20,6 @@ mod io;
 #[cfg(test)]
 mod keepings;
 #[cfg(test)]
-mod lowering;
-#[cfg(test)]
 mod machines;
 #[cfg(test)]
 mod matchings;
