@@ -1,5 +1,5 @@
 -- What a step changes: beams and atoms one after another, and the whole state.
-use Rattle.std.proofs.Common.{◌≡◌, ℕ, ◌+◌, ◌<◌, ◌≤◌, inl, inr, Bool, false, cond, not, eqb, List, [], ◌∷◌, ◌++◌, length, take, drop, get_or, set, append-nil, drop_of_length-le, take_all, refl, sym, ap, ◌∙◌, subst, arith, length-take, length-set}
+use Rattle.std.proofs.Common.{◌≡◌, ℕ, ◌+◌, ◌*◌, ◌<◌, ◌≤◌, inl, inr, Bool, false, cond, not, eqb, List, [], ◌∷◌, ◌++◌, length, take, drop, get_or, set, append-nil, drop_of_length-le, take_all, refl, sym, ap, ◌∙◌, subst, arith, length-take, length-set}
 use Rattle.std.specs.List.{All, Contains, list_any}
 use Rattle.std.proofs.lemmas.Bool.{cases_Bool}
 use Rattle.std.proofs.lemmas.List.Elements.{All-contains, filter_more}
@@ -16,11 +16,10 @@ use Rattle.zair_state.specs.State.{State, Beams, EachCrossing, idle, beams_of}
 use Rattle.zair_state.specs.Legal.{Picks, Drops}
 use Rattle.zair_state.specs.Result.{after, after_catching, after_dropping, with_beams, without_beams}
 use Rattle.zair_state.specs.Invariant.{IsSound}
-use Rattle.zair_machine.specs.Machine.{IsKept}
+use Rattle.zair_machine.specs.Machine.{IsKept, TellsTraps, TellsCrossings}
 use Rattle.zair_state.proofs.Membership.{all_from_contains}
 use Rattle.zair_state.proofs.BeamLists.{stays, among, found, length-without}
 use Rattle.zair_machine.proofs.AfterBeams.{length_with_beams}
-use Rattle.zair_machine.proofs.Noting.{Told}
 use Rattle.zair_state.proofs.Changing.{changes_of}
 
 unlisted_stays : (ids : List ℕ) (n : ℕ) → ¬ Contains ids n → list_any (λ id. eqb id n) ids ≡ false
@@ -69,15 +68,17 @@ pub set_same : (s : State) (aod : ℕ) (p p' : List Place) (r r' c c' : List Bea
 set_same s aod p p' r r' c c' e f g =
     ap (λ (x : List Place). set_to s aod x r c) e ∙ ap (λ (x : List Beam). set_to s aod p' x c) f ∙ ap (λ (x : List Beam). set_to s aod p' r' x) g
 
-pub kept_so : (a : Architecture) (s now next : State) (index index' : List ℕ) → IsKept a s index → IsSound a next → length next.places ≡ length s.places → length index' ≡ length index → Told next.places index' → now ≡ next → IsKept a now index'
-kept_so a s now next index index' kept sound same long told e =
-    let there : IsKept a next index' = record {
+pub kept_so : (a : Architecture) (s now next : State) (traps traps' crossings crossings' : List ℕ) → IsKept a s traps crossings → IsSound a next → length next.places ≡ length s.places → length next.aods ≡ length s.aods → length traps' ≡ length traps → length crossings' ≡ length crossings → TellsTraps next.places traps' → TellsCrossings next.places crossings' → now ≡ next → IsKept a now traps' crossings'
+kept_so a s now next traps traps' crossings crossings' kept sound same as_many long wide traps_told crossings_told e =
+    let there : IsKept a next traps' crossings' = record {
       sound = sound;
       few = let few = kept.few in omega arith;
       all_traps = long ∙ kept.all_traps;
-      told = told;
+      all_crossings = wide ∙ kept.all_crossings ∙ ap (λ (n : ℕ). n * 65536) (sym as_many);
+      traps_told = traps_told;
+      crossings_told = crossings_told;
     } in
-    subst (λ (x : State). IsKept a x index') (sym e) there
+    subst (λ (x : State). IsKept a x traps' crossings') (sym e) there
 
 -- a legal move lists no more beams than the card allows
 module _ (a : Architecture) (s : State) (aod : ℕ) (rows columns : List Beam) (known : aod < length s.aods) (sound : IsSound a (after s (Move aod rows columns))) where

@@ -1,6 +1,7 @@
 -- Atoms that a crossing drops.
-use Rattle.std.proofs.Common.{◌≡◌, ◌≢◌, ℕ, ◌⊎◌, inl, inr, Bool, IsTrue, List, map, refl, sym, ap, ◌∙◌, subst}
+use Rattle.std.proofs.Common.{◌≡◌, ◌≢◌, ℕ, ◌+◌, ◌*◌, ◌≤◌, ◌⊎◌, inl, inr, Bool, IsTrue, eqb, eqb-true, eq-eqb, Option, Some, List, map, get_or, count_by, refl, sym, ap, ◌∙◌, subst, arith, slice_get}
 use Rattle.std.specs.List.{Any, Contains}
+use Rattle.std.proofs.lemmas.Bool.{cases_lt, cases_order}
 use Rattle.zac_arch.specs.Architecture.{Architecture, StandsAt}
 use Rattle.zac_arch.specs.declared.place.Point.{Point}
 use Rattle.zac_arch.specs.declared.place.TrapId.{TrapId}
@@ -8,12 +9,20 @@ use Rattle.zair_form.specs.declared.step.Beam.{Beam}
 use Rattle.zair_form.specs.declared.step.Dropped.{Dropped}
 use Rattle.zair_state.specs.declared.place.Place.{Place}
 use Rattle.zair_state.specs.declared.place.Place.TheVariants.{Trap, Held}
+use Rattle.zair_form.specs.declared.step.Step.TheVariants.{Deactivate}
+use Rattle.zair_form.specs.declared.step.Step.{Step}
+use Rattle.zair_state.specs.Faults.{IsTwice, IsDropWrong}
+use Rattle.zair_state.specs.Invariant.{IsSound}
+use Rattle.zair_state.specs.Least.{IsLeastOf, lesser_of}
 use Rattle.zair_state.specs.Legal.{Drops}
 use Rattle.zair_state.specs.State.{State, IsAt, HasId, beams_of, crossing}
 use Rattle.zair_state.proofs.Membership.{contained_in_map, contains_map, any_contained, any_from_contained}
-use Rattle.zair_state.proofs.BeamLists.{Rising, one_of_id, has_id}
-use Rattle.zair_state.proofs.Minima.{Same, KeyOf}
+use Rattle.zair_state.proofs.BeamLists.{Rising, one_of_id, has_id, beam_of_id}
+use Rattle.zair_state.proofs.Minima.{Same, KeyOf, least_same, least_of_either}
 use Rattle.zair_state.proofs.Picking.{held_same, place_same}
+use Rattle.zair_machine.specs.Crossings.{IsCrossingOf, CountsDropped, IsWrongDrop, IsLeftBehind}
+use Rattle.zair_machine.proofs.Counting.{count_some, count_once, count_two, count_other}
+use Rattle.zair_machine.proofs.Items.{least_as, at_contained, map_at, mapped_at}
 
 pub any_key : {X : Type 0} (key : X → ℕ) (xs : List X) (n : ℕ) → Same (Any (λ x. key x ≡ n) xs) (Contains (map key xs) n)
 any_key key xs n = (
@@ -100,3 +109,151 @@ trap_not_left place t aod rows columns e h = let f = h.2 in absurd (cc)
 
 pub trap_not_hanging : (a : Architecture) (s : State) (place : Place) (t trap : TrapId) → place ≡ Trap t → ¬ HangsOver a s place trap
 trap_not_hanging a s place t trap e h = let f = h.5 in absurd (cc)
+
+-- the row of this beam and a column have a crossing that is switched off, holds the qubit's atom and has the count 0
+abbrev pub LeftInRow : State → ℕ → List ℕ → List ℕ → List Beam → List ℕ → ℕ → Beam → ℕ → Type 0
+LeftInRow s aod rows columns on_columns counts i r q =
+    (j : ℕ) × (c : Beam) × (slice_get on_columns j ≡ Some c) × IsAt s q (Held aod r.id c.id) × (Contains rows r.id ⊎ Contains columns c.id) × (get_or counts (i * 64 + j) 0 ≡ 0)
+
+-- the crossing of this column
+abbrev pub LeftWith : State → ℕ → ℕ → Bool → List ℕ → List ℕ → ℕ → Beam → ℕ → Type 0
+LeftWith s aod row off columns counts j c q = IsAt s q (Held aod row c.id) × (IsTrue off ⊎ Contains columns c.id) × (get_or counts j 0 ≡ 0)
+
+pub left_if : (s : State) (aod row : ℕ) (off : Bool) (columns counts : List ℕ) (j : ℕ) (c : Beam) (count : ℕ) (test : Bool) (o : Option ℕ) → count ≡ get_or counts j 0 → Same (IsTrue test) ((count ≡ 0) × (IsTrue off ⊎ Contains columns c.id)) → IsLeastOf (λ q. IsTrue test × IsAt s q (Held aod row c.id)) o → IsLeastOf (LeftWith s aod row off columns counts j c) o
+left_if s aod row off columns counts j c count test o e same h =
+    least_same (λ q. IsTrue test × IsAt s q (Held aod row c.id)) (LeftWith s aod row off columns counts j c) o
+    (λ q. (λ k. let t = same.0 k.0 in (k.1, t.1, sym e ∙ t.0), λ k. (same.1 (e ∙ k.2, k.1), k.0))) h
+
+pub left_row : (s : State) (aod : ℕ) (rows columns : List ℕ) (on_columns : List Beam) (counts behind : List ℕ) (i : ℕ) (r : Beam) (off : Bool) (o : Option ℕ) → ((j : ℕ) → get_or behind j 0 ≡ get_or counts (i * 64 + j) 0) → Same (IsTrue off) (Contains rows r.id)
+    → IsLeastOf (λ q. (j : ℕ) × (c : Beam) × (slice_get on_columns j ≡ Some c) × IsAt s q (Held aod r.id c.id) × (IsTrue off ⊎ Contains columns c.id) × (get_or behind j 0 ≡ 0)) o → IsLeastOf (LeftInRow s aod rows columns on_columns counts i r) o
+left_row s aod rows columns on_columns counts behind i r off o there same h =
+    least_same (λ q. (j : ℕ) × (c : Beam) × (slice_get on_columns j ≡ Some c) × IsAt s q (Held aod r.id c.id) × (IsTrue off ⊎ Contains columns c.id) × (get_or behind j 0 ≡ 0)) (LeftInRow s aod rows columns on_columns counts i r) o
+    (λ q. (
+      λ k. (k.0, k.1, k.2, k.3, elim k.4 [ inl t ↦ inl (same.0 t) | inr x ↦ inr x ], sym (there k.0) ∙ k.5),
+      λ k. (k.0, k.1, k.2, k.3, elim k.4 [ inl t ↦ inl (same.1 t) | inr x ↦ inr x ], there k.0 ∙ k.5),
+    )) h
+
+abbrev pub LeftBehind : State → ℕ → List ℕ → List ℕ → List Beam → List Beam → List ℕ → ℕ → Type 0
+LeftBehind s aod rows columns on_rows on_columns counts q =
+    (row : ℕ) × (column : ℕ) × (n : ℕ) × IsAt s q (Held aod row column) × (Contains rows row ⊎ Contains columns column) × IsCrossingOf on_rows on_columns row column n × (get_or counts n 0 ≡ 0)
+
+pub left_there : (s : State) (aod : ℕ) (rows columns : List ℕ) (on_rows on_columns : List Beam) (counts : List ℕ) (q i : ℕ) (r : Beam) → slice_get on_rows i ≡ Some r → LeftInRow s aod rows columns on_columns counts i r q → LeftBehind s aod rows columns on_rows on_columns counts q
+left_there s aod rows columns on_rows on_columns counts q i r at h =
+    (r.id, h.1.id, i * 64 + h.0, h.3, h.4, (i, h.0, r, h.1, at, h.2, refl, refl, refl), h.5)
+
+pub left_back : (s : State) (aod : ℕ) (rows columns : List ℕ) (on_rows on_columns : List Beam) (counts : List ℕ) (q : ℕ) → LeftBehind s aod rows columns on_rows on_columns counts q → (i : ℕ) × (r : Beam) × (slice_get on_rows i ≡ Some r) × LeftInRow s aod rows columns on_columns counts i r q
+left_back s aod rows columns on_rows on_columns counts q h =
+    let k = h.5 in
+    (k.0, k.2, k.4, (k.1, k.3, k.5, rw (k.6, k.7) h.3, rw (k.6, k.7) h.4, ap (λ (n : ℕ). get_or counts n 0) (sym k.8) ∙ h.6))
+
+-- what a deactivate does wrong with atoms, told by counts
+module _ (a : Architecture) (s : State) (sound : IsSound a s) (aod : ℕ) (rows columns : List ℕ) (atoms : List Dropped) (counts : List ℕ) (told : CountsDropped s aod atoms counts) where
+  abbrev on_rows : List Beam
+  on_rows = (beams_of s aod).rows
+
+  abbrev on_columns : List Beam
+  on_columns = (beams_of s aod).columns
+
+  abbrev Wrong : ℕ → Type 0
+  Wrong q = Any (λ (d : Dropped). (d.q ≡ q) × IsWrongDrop a s aod rows columns counts d) atoms
+
+  abbrev Left : ℕ → Type 0
+  Left q = LeftBehind s aod rows columns on_rows on_columns counts q
+
+  -- the number of the crossing that holds an atom
+  number_of : (q row column : ℕ) → IsAt s q (Held aod row column) → (n : ℕ) × IsCrossingOf on_rows on_columns row column n
+  number_of q row column at =
+      let active = sound.held q aod row column at in
+      let r = beam_of_id on_rows row active.0 in
+      let c = beam_of_id on_columns column active.1 in
+      let i = at_contained on_rows r.0 r.1 in
+      let j = at_contained on_columns c.0 c.1 in
+      (i.0 * 64 + j.0, (i.0, j.0, r.0, c.0, i.1, j.1, r.2, c.2, refl))
+
+  listed_count : (q : ℕ) → Any (λ (d : Dropped). d.q ≡ q) atoms → 1 ≤ count_by (λ (d : Dropped). eqb d.q q) atoms
+  listed_count q h =
+      let x = any_contained (λ (d : Dropped). d.q ≡ q) atoms h in count_once (λ (d : Dropped). eqb d.q q) atoms x.0 x.1 (eq-eqb x.0.q q x.2)
+
+  count_listed : (q : ℕ) → 1 ≤ count_by (λ (d : Dropped). eqb d.q q) atoms → Any (λ (d : Dropped). d.q ≡ q) atoms
+  count_listed q h =
+      let x = count_some (λ (d : Dropped). eqb d.q q) atoms h in any_from_contained (λ (d : Dropped). d.q ≡ q) atoms x.0 x.1 (eqb-true x.0.q q x.2)
+
+  twice_count : (q : ℕ) → IsTwice (map (λ (d : Dropped). d.q) atoms) q → 2 ≤ count_by (λ (d : Dropped). eqb d.q q) atoms
+  twice_count q h =
+      let x = mapped_at (λ (d : Dropped). d.q) atoms h.0 q h.3 in
+      let y = mapped_at (λ (d : Dropped). d.q) atoms h.1 q h.4 in
+      count_two (λ (d : Dropped). eqb d.q q) atoms h.0 h.1 x.0 y.0 h.2 x.1 y.1 (eq-eqb x.0.q q x.2) (eq-eqb y.0.q q y.2)
+
+  count_twice : (q : ℕ) → 2 ≤ count_by (λ (d : Dropped). eqb d.q q) atoms → IsTwice (map (λ (d : Dropped). d.q) atoms) q
+  count_twice q h =
+      let x = count_some (λ (d : Dropped). eqb d.q q) atoms (omega arith) in
+      let i = at_contained atoms x.0 x.1 in
+      let y = count_other (λ (d : Dropped). eqb d.q q) atoms i.0 x.0 i.1 x.2 h in
+      let qi : slice_get (map (λ (d : Dropped). d.q) atoms) i.0 ≡ Some q = map_at (λ (d : Dropped). d.q) atoms i.0 x.0 i.1 ∙ ap (λ (n : ℕ). Some n) (eqb-true x.0.q q x.2) in
+      let qj : slice_get (map (λ (d : Dropped). d.q) atoms) y.1 ≡ Some q = map_at (λ (d : Dropped). d.q) atoms y.1 y.0 y.2 ∙ ap (λ (n : ℕ). Some n) (eqb-true y.0.q q y.4) in
+      elim (cases_order i.0 y.1) [
+        | inl e ↦ absurd (y.3 e)
+        | inr other ↦ elim other [ inl less ↦ (i.0, y.1, less, qi, qj) | inr more ↦ (y.1, i.0, more, qj, qi) ]
+      ]
+
+  wrong_there : (q : ℕ) → Left q ⊎ Wrong q → IsDropWrong a s (Deactivate aod rows columns atoms) q
+  wrong_there q h = elim h [
+    | inl left ↦ inl (
+      left.0,
+      left.1,
+      left.3,
+      left.4,
+      λ listed.
+          let le = listed_count q listed in
+          let e = told q left.0 left.1 left.2 left.3 left.5 in
+          absurd (omega (arith, e, left.6)),
+    )
+    | inr wrong ↦
+        let x = any_contained (λ (d : Dropped). (d.q ≡ q) × IsWrongDrop a s aod rows columns counts d) atoms wrong in
+        elim x.2.1 [
+          | inl not_so ↦ inr (inl (any_from_contained (λ (d : Dropped). (d.q ≡ q) × ¬ Drops a s aod rows columns d) atoms x.0 x.1 (x.2.0, not_so)))
+          | inr many ↦
+              let e = told x.0.q many.0 many.1 many.2 many.3 many.4 in
+              let le : 2 ≤ count_by (λ (d : Dropped). eqb d.q x.0.q) atoms = omega (arith, e, many.5) in
+              inr (inr (count_twice q (subst (λ (n : ℕ). 2 ≤ count_by (λ (d : Dropped). eqb d.q n) atoms) x.2.0 le)))
+        ]
+  ]
+
+  wrong_back : (q : ℕ) → IsDropWrong a s (Deactivate aod rows columns atoms) q → ¬ ¬ (Left q ⊎ Wrong q)
+  wrong_back q h none = elim h [
+    | inl left ↦
+        let n = number_of q left.0 left.1 left.2 in
+        let e = told q left.0 left.1 n.0 left.2 n.1 in
+        let zero_count : get_or counts n.0 0 ≡ 0 = elim (cases_lt 0 (count_by (λ (d : Dropped). eqb d.q q) atoms)) [
+          | inl some ↦ absurd (left.4 (count_listed q (omega arith)))
+          | inr le ↦ omega arith
+        ] in
+        none (inl (left.0, left.1, n.0, left.2, left.3, n.1, zero_count))
+    | inr other ↦ elim other [
+      | inl wrong ↦
+          let x = any_contained (λ (d : Dropped). (d.q ≡ q) × ¬ Drops a s aod rows columns d) atoms wrong in
+          none (inr (any_from_contained (λ (d : Dropped). (d.q ≡ q) × IsWrongDrop a s aod rows columns counts d) atoms x.0 x.1 (x.2.0, inl x.2.1)))
+      | inr twice ↦
+          let le = twice_count q twice in
+          let x = count_some (λ (d : Dropped). eqb d.q q) atoms (omega arith) in
+          let eq = eqb-true x.0.q q x.2 in
+          none (inr (any_from_contained (λ (d : Dropped). (d.q ≡ q) × IsWrongDrop a s aod rows columns counts d) atoms x.0 x.1 (
+            eq,
+            inl (λ drops.
+                let n = number_of x.0.q drops.row.id drops.column.id drops.held in
+                let e = told x.0.q drops.row.id drops.column.id n.0 drops.held n.1 in
+                let many : 2 ≤ count_by (λ (d : Dropped). eqb d.q x.0.q) atoms = subst (λ (n : ℕ). 2 ≤ count_by (λ (d : Dropped). eqb d.q n) atoms) (sym eq) le in
+                none (inr (any_from_contained (λ (d : Dropped). (d.q ≡ q) × IsWrongDrop a s aod rows columns counts d) atoms x.0 x.1 (eq, inr (drops.row.id, drops.column.id, n.0, drops.held, n.1, omega arith))))),
+          )))
+    ]
+  ]
+
+  drops_wrong : (left wrong o : Option ℕ) → o ≡ lesser_of left wrong → IsLeastOf (LeftBehind s aod rows columns (beams_of s aod).rows (beams_of s aod).columns counts) left → IsLeastOf (λ q. Any (λ (d : Dropped). (d.q ≡ q) × IsWrongDrop a s aod rows columns counts d) atoms) wrong → IsLeastOf (IsDropWrong a s (Deactivate aod rows columns atoms)) o
+  drops_wrong left wrong o e h k =
+      rw e (least_as (λ q. Left q ⊎ Wrong q) (IsDropWrong a s (Deactivate aod rows columns atoms)) (lesser_of left wrong) wrong_there wrong_back
+      (least_of_either Left Wrong (λ q. Left q ⊎ Wrong q) left wrong (λ q x. x) (λ q x. inl x) (λ q x. inr x) h k))
+
+pub drop_counted : (a : Architecture) (s : State) → IsSound a s → (aod : ℕ) (rows columns on_rows on_columns : List ℕ) (atoms listed : List Dropped) (step : Step) (counts : List ℕ) (left wrong o : Option ℕ) → step ≡ Deactivate aod rows columns atoms → on_rows ≡ rows → on_columns ≡ columns → listed ≡ atoms → o ≡ lesser_of left wrong
+    → CountsDropped s aod listed counts → IsLeastOf (IsLeftBehind s aod on_rows on_columns counts) left → IsLeastOf (λ q. Any (λ (d : Dropped). (d.q ≡ q) × IsWrongDrop a s aod on_rows on_columns counts d) listed) wrong → IsLeastOf (IsDropWrong a s step) o
+drop_counted a s sound aod rows columns on_rows on_columns atoms listed step counts left wrong o e f g h i =
+    rw (e, f, g, h) (λ told x y. drops_wrong a s sound aod rows columns atoms counts told left wrong o i x y)

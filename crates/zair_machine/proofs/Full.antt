@@ -1,5 +1,5 @@
 -- Traps that hold an atom where a move takes another one.
-use Rattle.std.proofs.Common.{◌≡◌, ℕ, ◌<◌, ◌≤◌, ◌⊎◌, inl, inr, Option, Some, None, MatchOption, List, length, sym, ap, ◌∙◌, subst, arith}
+use Rattle.std.proofs.Common.{◌≡◌, ℕ, ◌<◌, ◌≤◌, ◌⊎◌, inl, inr, Bool, IsTrue, Option, Some, None, MatchOption, List, length, sym, ap, ◌∙◌, subst, arith}
 use Rattle.std.proofs.lemmas.Bool.{cases_order}
 use Rattle.std.proofs.lemmas.Option.{slice_get_within}
 use Rattle.std.specs.List.{Contains}
@@ -10,8 +10,11 @@ use Rattle.zair_form.specs.declared.step.Beam.{Beam}
 use Rattle.zair_state.specs.declared.place.Place.{Place}
 use Rattle.zair_state.specs.declared.place.Place.TheVariants.{Trap, Held}
 use Rattle.zair_state.specs.State.{State, IsAt, crossing}
+use Rattle.zair_machine.specs.Crossings.{CarriesOntoFull}
 use Rattle.zair_state.proofs.BeamLists.{Rising, one_of_id}
-use Rattle.zair_state.proofs.Picking.{NoneBelow, held_same, place_same}
+use Rattle.zair_state.specs.Least.{IsLeastOf}
+use Rattle.zair_state.proofs.Minima.{Same, least_same}
+use Rattle.zair_state.proofs.Picking.{held_same, place_same}
 
 abbrev pub NoMove : ℕ → List Beam → List Beam → Place → Type 0
 NoMove aod rows columns place = (r c : Beam) → Contains rows r → Contains columns c → ¬ (place ≡ Held aod r.id c.id)
@@ -67,19 +70,37 @@ at_place a s aod rows columns q place t at h = (h.0, h.1, h.2, h.3, place_same s
 of_place : (a : Architecture) (s : State) (aod : ℕ) (rows columns : List Beam) (q : ℕ) (place : Place) (t : TrapId) → IsAt s q place → Full a s aod rows columns place t → FullAt a s aod rows columns q t
 of_place a s aod rows columns q place t at h = (h.0, h.1, h.2, h.3, subst (λ (x : Place). IsAt s q x) h.4 at, h.5, h.6)
 
-pub none_full : (a : Architecture) (s : State) (aod : ℕ) (rows columns : List Beam) (q : ℕ) (place : Place) → IsAt s q place → FullTrap a s aod rows columns place None → ¬ ((t : TrapId) × FullAt a s aod rows columns q t)
-none_full a s aod rows columns q place at none h = none h.0 (at_place a s aod rows columns q place h.0 at h.1)
+pub full_if : (a : Architecture) (s : State) (aod : ℕ) (r c : Beam) (test : Bool) (o : Option ℕ) → Same (IsTrue test) ((t : TrapId) × StandsAt a t.0 (crossing r c) × ((p : ℕ) × IsAt s p (Trap t))) → IsLeastOf (λ q. IsTrue test × IsAt s q (Held aod r.id c.id)) o → IsLeastOf (CarriesOntoFull a s aod r c) o
+full_if a s aod r c test o same h =
+    least_same (λ q. IsTrue test × IsAt s q (Held aod r.id c.id)) (CarriesOntoFull a s aod r c) o (λ q. (λ k. (k.1, same.0 k.0), λ k. (same.1 k.1, k.0))) h
 
-pub full_first : (a : Architecture) (s : State) (aod : ℕ) (rows columns : List Beam) (q : ℕ) (place : Place) (t : TrapId) → NoneBelow (λ q. (t : TrapId) × FullAt a s aod rows columns q t) q → IsAt s q place → FullTrap a s aod rows columns place (Some t) → FullAt a s aod rows columns q t × ((m : ℕ) (u : TrapId) → FullAt a s aod rows columns m u → (q < m) ⊎ ((q ≡ m) × (u ≡ t)))
-full_first a s aod rows columns q place t none at told = (
+abbrev pub FullInRow : Architecture → State → ℕ → Beam → List Beam → ℕ → Type 0
+FullInRow a s aod r columns q = (c : Beam) × Contains columns c × CarriesOntoFull a s aod r c q
+
+-- the least qubit over crossings of rows and columns, and the trap that it is taken onto
+abbrev pub FullQubit : Architecture → State → ℕ → List Beam → List Beam → ℕ → Type 0
+FullQubit a s aod rows columns q = (r : Beam) × (c : Beam) × Contains rows r × Contains columns c × CarriesOntoFull a s aod r c q
+
+full_of : (a : Architecture) (s : State) (aod : ℕ) (rows columns : List Beam) (q : ℕ) → FullQubit a s aod rows columns q → (t : TrapId) × FullAt a s aod rows columns q t
+full_of a s aod rows columns q h = let k = h.4 in let w = k.1 in (w.0, (h.0, h.1, h.2, h.3, k.0, w.1, w.2))
+
+of_full : (a : Architecture) (s : State) (aod : ℕ) (rows columns : List Beam) (q : ℕ) (t : TrapId) → FullAt a s aod rows columns q t → FullQubit a s aod rows columns q
+of_full a s aod rows columns q t h = (h.0, h.1, h.2, h.3, (h.4, (t, h.5, h.6)))
+
+pub never_full_at : (a : Architecture) (s : State) (aod : ℕ) (rows columns : List Beam) → ((q : ℕ) → ¬ FullQubit a s aod rows columns q) → (q : ℕ) (t : TrapId) → ¬ FullAt a s aod rows columns q t
+never_full_at a s aod rows columns none q t h = none q (of_full a s aod rows columns q t h)
+
+pub full_within : (a : Architecture) (s : State) (aod : ℕ) (rows columns : List Beam) (q : ℕ) → FullQubit a s aod rows columns q → q < length s.places
+full_within a s aod rows columns q h = slice_get_within s.places q (Held aod h.0.id h.1.id) h.4.0
+
+pub not_missing : (a : Architecture) (s : State) (aod : ℕ) (rows columns : List Beam) (q : ℕ) (place : Place) → IsAt s q place → FullQubit a s aod rows columns q → ¬ FullTrap a s aod rows columns place None
+not_missing a s aod rows columns q place at h none = let f = full_of a s aod rows columns q h in none f.0 (at_place a s aod rows columns q place f.0 at f.1)
+
+pub full_least : (a : Architecture) (s : State) (aod : ℕ) (rows columns : List Beam) (q : ℕ) (place : Place) (t : TrapId) → ((m : ℕ) → FullQubit a s aod rows columns m → q ≤ m) → IsAt s q place → FullTrap a s aod rows columns place (Some t) → FullAt a s aod rows columns q t × ((m : ℕ) (u : TrapId) → FullAt a s aod rows columns m u → (q < m) ⊎ ((q ≡ m) × (u ≡ t)))
+full_least a s aod rows columns q place t least at told = (
   of_place a s aod rows columns q place t at told.0,
   λ m u h. elim (cases_order q m) [
     | inl e ↦ inr (e, told.1 u (at_place a s aod rows columns q place u at (subst (λ (k : ℕ). FullAt a s aod rows columns k u) (sym e) h)))
-    | inr other ↦ elim other [ inl less ↦ inl less | inr more ↦ absurd (none m more (u, h)) ]
+    | inr other ↦ elim other [ inl less ↦ inl less | inr more ↦ (let le = least m (of_full a s aod rows columns m u h) in absurd (omega arith)) ]
   ],
 )
-
-pub never_at : (a : Architecture) (s : State) (aod : ℕ) (rows columns : List Beam) (n : ℕ) → length s.places ≤ n → NoneBelow (λ q. (t : TrapId) × FullAt a s aod rows columns q t) n → (q : ℕ) (t : TrapId) → ¬ FullAt a s aod rows columns q t
-never_at a s aod rows columns n le none q t h =
-    let lt = slice_get_within s.places q (Held aod h.0.id h.1.id) h.4 in
-    none q (omega arith) (t, h)

@@ -1,10 +1,10 @@
 -- Homes that are right: storage traps of which no two are the same.
-use Rattle.std.proofs.Common.{◌≡◌, ◌≢◌, ℕ, ◌+◌, ◌<◌, ◌≤◌, ◌⊎◌, inl, inr, Bool, true, false, IsTrue, eqb, eqb-true, Option, Some, None, List, [], ◌∷◌, ◌++◌, length, map, take, get_or, set, slice_get, replicate, refl, sym, ap, ◌∙◌, subst, arith}
-use Rattle.std.specs.List.{All, AllPairs, Contains, list_any}
+use Rattle.std.proofs.Common.{◌≡◌, ◌≢◌, ℕ, ◌+◌, ◌*◌, ◌<◌, ◌≤◌, ◌⊎◌, inl, inr, Bool, true, false, eqb, eqb-true, Option, Some, None, List, length, map, take, get_or, set, slice_get, replicate, sym, ap, ◌∙◌, subst, arith}
+use Rattle.std.specs.List.{list_any}
 use Rattle.std.proofs.lemmas.Bool.{cases_lt, cases_eq, false≢true}
 use Rattle.std.proofs.lemmas.Bool.Decides.{Decides-eqb}
 use Rattle.std.proofs.lemmas.Grind.{get_or-set_at}
-use Rattle.std.proofs.lemmas.List.{get_or-map, get_or-take, length-take, length-map, length-set, get_or-set_other, take_more, take_all, get_or_default}
+use Rattle.std.proofs.lemmas.List.{get_or-map, get_or-take, length-take, length-map, length-set, length-replicate, get_or-set_other, take_all, get_or_default}
 use Rattle.std.proofs.lemmas.Map.Made.{IsDistinct-from_AllPairs}
 use Rattle.std.proofs.lemmas.Map.Steps.{length-le_from_distinct_below}
 use Rattle.std.proofs.lemmas.Map.Views.{Contains-from_any}
@@ -22,6 +22,7 @@ use Rattle.zair_machine.specs.Machine.{IsKept, IsWrongHome}
 use Rattle.zair_state.specs.State.{Beams, idle, opening}
 use Rattle.zair_machine.proofs.Full.{same_trap_number}
 use Rattle.zair_machine.proofs.Noting.{home_at}
+use Rattle.zair_machine.proofs.Holding.{crossings_opening}
 use Rattle.zair_state.proofs.Picking.{NoneBelow, none_below_more, none_of_all, first_of_all}
 use Rattle.zair_state.proofs.Soundness.{opening_sound}
 
@@ -133,8 +134,8 @@ module _ (a : Architecture) (homes : List TrapId) where
   none_wrong_at_end k le right = none_of_all (IsWrongHome a homes) k (length homes) le (λ m h. slice_get_within homes m h.0 h.1) right
 
   -- where no home is wrong, the state at the begin is kept
-  opening_kept : (index : List ℕ) → KeepsRules a → ((q : ℕ) → ¬ IsWrongHome a homes q) → length index ≡ trap_count a → ((q : ℕ) (home : TrapId) → slice_get homes q ≡ Some home → slice_get index home.0 ≡ Some q) → IsKept a (opening a homes) index
-  opening_kept index rules none len told =
+  opening_kept : (traps crossings : List ℕ) → KeepsRules a → ((q : ℕ) → ¬ IsWrongHome a homes q) → length traps ≡ trap_count a → length crossings ≡ a.figures.aods * 65536 → ((q : ℕ) (home : TrapId) → slice_get homes q ≡ Some home → slice_get traps home.0 ≡ Some q) → IsKept a (opening a homes) traps crossings
+  opening_kept traps crossings rules none len wide told =
       let right : AreRight (length homes) = λ q lt. none q in
       let once : AreOnce (map (λ (h : TrapId). h.0) homes) = subst (λ (l : List TrapId). AreOnce (map (λ (h : TrapId). h.0) l)) (take_all (length homes) homes (omega arith)) (first_once (length homes) (omega arith) right) in
       let few = few_right (length homes) (omega arith) right in
@@ -142,11 +143,13 @@ module _ (a : Architecture) (homes : List TrapId) where
         sound = opening_sound a homes (λ i d lt. omega (arith, in_storage (length homes) i d right lt lt, trap_count_is a rules)) once;
         few = omega (arith, few, storage_count_most a rules, length-map homes (λ (h : TrapId). Trap h));
         all_traps = len;
-        told = λ q t at. told q t (home_at homes q t at);
+        all_crossings = wide ∙ ap (λ (n : ℕ). n * 65536) (sym (length-replicate a.figures.aods idle));
+        traps_told = λ q t at. told q t (home_at homes q t at);
+        crossings_told = crossings_opening homes crossings;
       }
 
-  pub opened_kept : (index : List ℕ) (places : List Place) (aods : List Beams) (f : Figures) (o : Option ℕ) → KeepsRules a → f ≡ a.figures → places ≡ map (λ (h : TrapId). Trap h) homes → aods ≡ replicate f.aods idle → IsLeastOf (IsWrongHome a homes) o → o ≡ None → length index ≡ trap_count a → ((q : ℕ) (home : TrapId) → slice_get homes q ≡ Some home → slice_get index home.0 ≡ Some q) → IsKept a (record { places = places; aods = aods }) index
-  opened_kept index places aods f o rules g p b told e len noted =
+  pub opened_kept : (traps crossings : List ℕ) (places : List Place) (aods : List Beams) (f : Figures) (o : Option ℕ) → KeepsRules a → f ≡ a.figures → places ≡ map (λ (h : TrapId). Trap h) homes → aods ≡ replicate f.aods idle → IsLeastOf (IsWrongHome a homes) o → o ≡ None → length traps ≡ trap_count a → length crossings ≡ f.aods * 65536 → ((q : ℕ) (home : TrapId) → slice_get homes q ≡ Some home → slice_get traps home.0 ≡ Some q) → IsKept a (record { places = places; aods = aods }) traps crossings
+  opened_kept traps crossings places aods f o rules g p b told e len wide noted =
       let none : (q : ℕ) → ¬ IsWrongHome a homes q = subst (λ (x : Option ℕ). IsLeastOf (IsWrongHome a homes) x) e told in
       let idle_all : aods ≡ replicate a.figures.aods idle = b ∙ ap (λ (x : Figures). replicate x.aods idle) g in
-      rw (p, idle_all) (opening_kept index rules none len noted)
+      rw (p, idle_all) (opening_kept traps crossings rules none len (wide ∙ ap (λ (x : Figures). x.aods * 65536) g) noted)

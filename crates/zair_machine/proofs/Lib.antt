@@ -12,3 +12,8 @@ pub mod Together
 pub mod PairWrongs
 pub mod PairSites
 pub mod Noting
+pub mod Holding
+pub mod Items
+pub mod Counting
+pub mod Numbering
+pub mod Catching

@@ -1,5 +1,5 @@
 -- The index from traps to qubits, and how a step keeps it.
-use Rattle.std.proofs.Common.{◌≡◌, ◌≢◌, ℕ, zero, suc, ◌+◌, ◌<◌, ◌≤◌, ◌⊎◌, inl, inr, List, [], ◌∷◌, Some, length, map, get_or, set, length-set, refl, sym, ap, ◌∙◌, subst, arith, slice_get}
+use Rattle.std.proofs.Common.{◌≡◌, ◌≢◌, ℕ, zero, suc, ◌+◌, ◌<◌, ◌≤◌, inl, inr, List, [], ◌∷◌, Some, length, map, get_or, set, length-set, refl, sym, ap, ◌∙◌, subst, arith, slice_get}
 use Rattle.std.specs.List.{All, Contains}
 use Rattle.std.proofs.lemmas.Bool.{cases_eq, cases_lt, cases_order}
 use Rattle.std.proofs.lemmas.List.Elements.{All-contains}
@@ -19,7 +19,7 @@ use Rattle.zair_state.specs.Invariant.{IsSound}
 use Rattle.zair_state.specs.Legal.{IsLegal, Drops}
 use Rattle.zair_state.specs.Result.{after_catching, after_dropping}
 use Rattle.zair_state.specs.State.{State, IsAt, beams_of, crossing}
-use Rattle.zair_machine.specs.Machine.{after_noting, IsWrongHome}
+use Rattle.zair_machine.specs.Machine.{after_writing, TellsTraps, IsWrongHome}
 use Rattle.zair_machine.proofs.Full.{same_trap_number}
 use Rattle.zair_state.proofs.BeamLists.{one_at}
 use Rattle.zair_state.proofs.Deciding.{told_contained}
@@ -47,33 +47,32 @@ unwritten (z ∷ zs) zero (suc k) y ne = refl
 unwritten (z ∷ zs) (suc i) zero y ne = refl
 unwritten (z ∷ zs) (suc i) (suc k) y ne = unwritten zs i k y (λ e. ne (ap suc e))
 
-pub length_noted : (atoms : List Dropped) (index : List ℕ) → length (after_noting atoms index) ≡ length index
-length_noted [] index = refl
-length_noted (d ∷ ds) index = length_noted ds (set index d.trap.0 d.q) ∙ length-set index d.trap.0 d.q
+-- what stands where the numbers of items are written
+module _ {X : Type 0} (place number : X → ℕ) where
+  pub length_written : (xs : List X) (ns : List ℕ) → length (after_writing place number xs ns) ≡ length ns
+  length_written [] ns = refl
+  length_written (x ∷ xs) ns = length_written xs (set ns (place x) (number x)) ∙ length-set ns (place x) (number x)
 
-noted_elsewhere : (atoms : List Dropped) (index : List ℕ) (n : ℕ) → ((d : Dropped) → Contains atoms d → d.trap.0 ≢ n) → slice_get (after_noting atoms index) n ≡ slice_get index n
-noted_elsewhere [] index n other = refl
-noted_elsewhere (x ∷ xs) index n other =
-    noted_elsewhere xs (set index x.trap.0 x.q) n (λ d h. other d (contains_later x d xs h)) ∙ unwritten index x.trap.0 n x.q (λ e. other x (contains_here x xs) (sym e))
+  pub written_elsewhere : (xs : List X) (ns : List ℕ) (n : ℕ) → ((x : X) → Contains xs x → place x ≢ n) → slice_get (after_writing place number xs ns) n ≡ slice_get ns n
+  written_elsewhere [] ns n other = refl
+  written_elsewhere (x ∷ xs) ns n other =
+      written_elsewhere xs (set ns (place x) (number x)) n (λ y h. other y (contains_later x y xs h)) ∙ unwritten ns (place x) n (number x) (λ e. other x (contains_here x xs) (sym e))
 
-noted_there : (atoms : List Dropped) (index : List ℕ) (n q : ℕ) → n < length index → ((d : Dropped) → Contains atoms d → d.trap.0 ≡ n → d.q ≡ q) → ((d : Dropped) × Contains atoms d × (d.trap.0 ≡ n)) → slice_get (after_noting atoms index) n ≡ Some q
-noted_there [] index n q lt same h = absurd (contains_none h.0 h.1)
-noted_there (x ∷ xs) index n q lt same h = elim (told_contained (λ (d : Dropped). d.trap.0 ≡ n) xs (λ d. cases_eq d.trap.0 n)) [
-  | inl there ↦ noted_there xs (set index x.trap.0 x.q) n q (omega (arith, lt, length-set index x.trap.0 x.q)) (λ d k e. same d (contains_later x d xs k) e) there
-  | inr none ↦ elim (contains_cases x h.0 xs h.1) [
-    | inr later ↦ absurd (none (h.0, later, h.2))
-    | inl first ↦
-        let at : x.trap.0 ≡ n = ap (λ (d : Dropped). d.trap.0) first ∙ h.2 in
-        let mine : slice_get (set index x.trap.0 x.q) n ≡ Some x.q = subst (λ (k : ℕ). slice_get (set index x.trap.0 x.q) k ≡ Some x.q) at (written index x.trap.0 x.q (omega (arith, lt, at))) in
-        noted_elsewhere xs (set index x.trap.0 x.q) n (λ d k e. none (d, k, e)) ∙ mine ∙ ap (λ (k : ℕ). Some k) (same x (contains_here x xs) at)
+  pub written_there : (xs : List X) (ns : List ℕ) (n q : ℕ) → n < length ns → ((x : X) → Contains xs x → place x ≡ n → number x ≡ q) → ((x : X) × Contains xs x × (place x ≡ n)) → slice_get (after_writing place number xs ns) n ≡ Some q
+  written_there [] ns n q lt same h = absurd (contains_none h.0 h.1)
+  written_there (x ∷ xs) ns n q lt same h = elim (told_contained (λ (y : X). place y ≡ n) xs (λ y. cases_eq (place y) n)) [
+    | inl there ↦ written_there xs (set ns (place x) (number x)) n q (omega (arith, lt, length-set ns (place x) (number x))) (λ y k e. same y (contains_later x y xs k) e) there
+    | inr none ↦ elim (contains_cases x h.0 xs h.1) [
+      | inr later ↦ absurd (none (h.0, later, h.2))
+      | inl first ↦
+          let at : place x ≡ n = ap place first ∙ h.2 in
+          let mine : slice_get (set ns (place x) (number x)) n ≡ Some (number x) = subst (λ (k : ℕ). slice_get (set ns (place x) (number x)) k ≡ Some (number x)) at (written ns (place x) (number x) (omega (arith, lt, at))) in
+          written_elsewhere xs (set ns (place x) (number x)) n (λ y k e. none (y, k, e)) ∙ mine ∙ ap (λ (k : ℕ). Some k) (same x (contains_here x xs) at)
+    ]
   ]
-]
 
--- the index tells of each of these places that is a trap
-abbrev pub Told : List Place → List ℕ → Type 0
-Told places index = (q : ℕ) (t : TrapId) → slice_get places q ≡ Some (Trap t) → slice_get index t.0 ≡ Some q
-
-pub told_caught : (aod : ℕ) (atoms : List Caught) (places : List Place) (index : List ℕ) → Told places index → Told (after_catching aod atoms places) index
+-- atoms that are caught leave their traps, and the index of traps stays
+pub told_caught : (aod : ℕ) (atoms : List Caught) (places : List Place) (index : List ℕ) → TellsTraps places index → TellsTraps (after_catching aod atoms places) index
 told_caught aod atoms places index told q t h = elim (after_catching_at aod atoms places q (Trap t) h) [
   | inl c ↦ held_no_trap aod c.0.row c.0.column t (slice_get index t.0 ≡ Some q) c.3
   | inr old ↦ told q t old.1
@@ -99,15 +98,15 @@ module _ (a : Architecture) (s : State) (aod : ℕ) (rows columns : List ℕ) (a
       let held : IsAt s d.q (Held aod r.row.id r.column.id) = subst (λ (b : Beam). IsAt s d.q (Held aod r.row.id b.id)) column (subst (λ (b : Beam). IsAt s d.q (Held aod b.id p.column.id)) row p.held) in
       sound.apart d.q e.q (Held aod r.row.id r.column.id) held r.held
 
-  pub told_dropped : (index : List ℕ) → length index ≡ trap_count a → Told s.places index → Told (after_dropping atoms s.places) (after_noting atoms index)
+  pub told_dropped : (index : List ℕ) → length index ≡ trap_count a → TellsTraps s.places index → TellsTraps (after_dropping atoms s.places) (after_writing (λ (d : Dropped). d.trap.0) (λ (d : Dropped). d.q) atoms index)
   told_dropped index len told q t h = elim (after_dropping_at atoms s.places q (Trap t) h) [
     | inl x ↦
         let at : x.0.trap.0 ≡ t.0 = trap_number x.0.trap t x.3 in
         let p = drop_of x.0 x.1 in
-        noted_there atoms index t.0 q (omega (arith, len, at, slice_get_within (trap_points a) x.0.trap.0 (crossing p.row p.column) p.exact))
+        written_there (λ (d : Dropped). d.trap.0) (λ (d : Dropped). d.q) atoms index t.0 q (omega (arith, len, at, slice_get_within (trap_points a) x.0.trap.0 (crossing p.row p.column) p.exact))
         (λ d k e. one_drop d x.0 k x.1 (e ∙ sym at) ∙ x.2) (x.0, x.1, at)
     | inr old ↦ elim (told_contained (λ (d : Dropped). d.trap.0 ≡ t.0) atoms (λ d. cases_eq d.trap.0 t.0)) [
-      | inr none ↦ noted_elsewhere atoms index t.0 (λ d k e. none (d, k, e)) ∙ told q t old.1
+      | inr none ↦ written_elsewhere (λ (d : Dropped). d.trap.0) (λ (d : Dropped). d.q) atoms index t.0 (λ d k e. none (d, k, e)) ∙ told q t old.1
       | inl x ↦ absurd (All-contains (λ (d : Dropped). (r : ℕ) → ¬ IsAt s r (Trap d.trap)) atoms x.0 empty x.1 q (subst (λ (u : TrapId). IsAt s q (Trap u)) (same_trap_number t x.0.trap (sym x.2)) old.1))
     ]
   ]

@@ -1,6 +1,6 @@
 -- From sites to wrong pairs and to atoms that are lit alone.
-use Rattle.std.proofs.Common.{◌≡◌, ◌≢◌, ℕ, ◌+◌, ◌*◌, ◌<◌, ◌≤◌, ◌⊎◌, inl, inr, Bool, false, IsTrue, Option, Some, None, MatchOption, List, length, take, get_or, replicate, min, max, refl, sym, ap, ◌∙◌, subst, arith, slice_get}
-use Rattle.std.specs.List.{All, Any, Contains}
+use Rattle.std.proofs.Common.{◌≡◌, ℕ, ◌+◌, ◌*◌, ◌<◌, ◌≤◌, ◌⊎◌, inl, inr, Bool, Option, Some, List, refl, sym, ap, ◌∙◌, subst, arith, slice_get}
+use Rattle.std.specs.List.{Any, Contains}
 use Rattle.std.proofs.lemmas.Bool.{cases_lt}
 use Rattle.std.proofs.lemmas.List.{get_or-take, length-take}
 use Rattle.std.proofs.lemmas.Option.{slice_get_within, slice_get-get_or, get_or_from_slice_get}
@@ -10,7 +10,7 @@ use Rattle.zac_arch.specs.declared.place.Point.{Point}
 use Rattle.zair_form.specs.declared.step.PairOf.{PairOf}
 use Rattle.zair_form.specs.declared.step.Step.{Step}
 use Rattle.zair_form.specs.declared.step.Step.TheVariants.{Pulse}
-use Rattle.zair_state.specs.Faults.{IsLitAlone, IsPairWrong}
+use Rattle.zair_state.specs.Faults.{IsLitAlone}
 use Rattle.zair_state.specs.FirstFault.{AreMetBefore}
 use Rattle.zair_state.specs.declared.fault.MachineFault.TheVariants.{PairWrong}
 use Rattle.zair_state.specs.Invariant.{IsSound}
@@ -22,7 +22,7 @@ use Rattle.zair_state.proofs.Membership.{any_contained, any_from_contained}
 use Rattle.zair_state.proofs.Minima.{Same, least_same}
 use Rattle.zair_state.proofs.NothingBroken.{contained_at}
 use Rattle.zair_state.proofs.Pairs.{IsWrongPair}
-use Rattle.zair_machine.specs.Sites.{RestsAtSite, AreTogether, IsEarlierOf, IsMarked, IsInOrder, IsListedWrong, IsUnlisted, IsAloneAtSite}
+use Rattle.zair_machine.specs.Sites.{AreTogether, IsEarlierOf, IsMarked, IsInOrder, IsListedWrong, IsUnlisted, IsAloneAtSite}
 use Rattle.zair_machine.proofs.PairWrongs.{Joins, earlier_least}
 use Rattle.zair_machine.proofs.Together.{rests_at_one, together_back, same_pair, pair_together, together_pair, lit_at_site, site_lit, range_together, together_range}
 

@@ -1,15 +1,13 @@
 -- The first wrong pair of a pulse, found by marks on sites.
-use Rattle.std.proofs.Common.{◌≡◌, ◌≢◌, ℕ, zero, suc, ◌+◌, ◌*◌, ◌-◌, ◌<◌, ◌≤◌, ◌⊎◌, inl, inr, ◌↔◌, Bool, true, false, IsTrue, Option, Some, None, MatchOption, List, [], ◌∷◌, length, take, get_or, set, replicate, min, max, refl, sym, ap, ◌∙◌, subst, arith, slice_get}
-use Rattle.std.specs.List.{All, Any, Contains}
+use Rattle.std.proofs.Common.{◌≡◌, ℕ, zero, suc, ◌+◌, ◌<◌, ◌≤◌, ◌⊎◌, inl, inr, Bool, false, Option, Some, None, MatchOption, List, [], length, take, get_or, replicate, sym, ◌∙◌, subst, arith, slice_get}
+use Rattle.std.specs.List.{Any, Contains}
 use Rattle.std.proofs.lemmas.Bool.{cases_lt, cases_eq, false≢true}
-use Rattle.std.proofs.lemmas.List.{take_more, take_all, get_or-take, length-take}
-use Rattle.std.proofs.lemmas.Option.{slice_get_within, slice_get-get_or, get_or_from_slice_get}
+use Rattle.std.proofs.lemmas.List.{take_more, take_all}
+use Rattle.std.proofs.lemmas.Option.{slice_get_within, slice_get-get_or}
 use Rattle.zac_arch.specs.Architecture.{Architecture}
 use Rattle.zair_form.specs.declared.step.PairOf.{PairOf}
-use Rattle.zair_state.specs.Legal.{IsPairOf}
-use Rattle.zair_state.specs.State.{State, AreInRange}
+use Rattle.zair_state.specs.State.{State}
 use Rattle.zair_state.proofs.Membership.{contains_none, any_contained, any_from_contained}
-use Rattle.zair_state.proofs.NothingBroken.{contained_at}
 use Rattle.zair_state.specs.Least.{IsLeastOf, IsLeastPairOf, IsNoLater, lesser_of}
 use Rattle.zair_machine.specs.Sites.{RestsAtSite, AreTogether, IsEarlierOf, IsMarked, IsInOrder, IsMisplaced, IsListedWrong, IsUnlisted, IsAloneAtSite}
 use Rattle.zair_machine.proofs.Together.{rests_at_one}

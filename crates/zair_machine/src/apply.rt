@@ -1,15 +1,16 @@
 //! What a legal step does to the state of the machine.
 
-ghost use Rattle.std.specs.Prelude.{◌≡◌, ◌<◌, length};
+ghost use Rattle.std.specs.Prelude.{◌≡◌, ◌+◌, ◌*◌, ◌<◌, ◌≤◌, length};
 ghost use Rattle.std.specs.List.{All};
 ghost use Rattle.zair_form.specs.declared.step.Step.TheVariants.{Activate, Move, Deactivate};
-ghost use Rattle.zair_machine.specs.Machine.{after_noting};
+ghost use Rattle.zair_machine.specs.Machine.{after_writing};
+ghost use Rattle.zair_machine.specs.Crossings.{crossing_number};
 ghost use Rattle.zair_state.specs.Legal.{IsLegal};
 ghost use Rattle.zair_state.specs.Result.{after, after_catching, after_dropping};
 
 use crate::aod::Aod;
 use crate::beams::{with_all, without_all};
-use crate::machine::Machine;
+use crate::machine::{Machine, crossing_number};
 use zair_form::{Beam, Caught, Dropped, Step};
 use zair_state::{Place, drops_find_empty_traps, legal_steps_keep_states_sound};
 
@@ -37,10 +38,21 @@ fn drop_all(places: &mut [Place], atoms: &[Dropped])
     }
 }
 
+/// Notes each listed atom at the crossing that is listed with it.
+fn note_caught(index: &mut [u32], aod: u8, atoms: &[Caught])
+    requires { aod * 65536 + 65536 ≤ length index.old }
+    ensures noted { index.new ≡ after_writing (λ c. crossing_number aod c.row c.column) (λ c. c.q) atoms.now index.old }
+    ensures ids { All (λ c. (c.row < 256) × (c.column < 256)) atoms.now }
+{
+    for c in atoms {
+        index[crossing_number(aod, c.row, c.column)] = c.q;
+    }
+}
+
 /// Notes each listed atom at the trap that is listed with it.
-fn note_all(index: &mut [u32], atoms: &[Dropped])
+fn note_dropped(index: &mut [u32], atoms: &[Dropped])
     requires { All (λ d. d.trap.0 < length index.old) atoms.now }
-    ensures { index.new ≡ after_noting atoms.now index.old }
+    ensures { index.new ≡ after_writing (λ d. d.trap.0) (λ d. d.q) atoms.now index.old }
 {
     for d in atoms {
         index[d.trap.0 as usize] = d.q;
@@ -60,6 +72,7 @@ impl<'a> Machine<'a> {
             columns: with_all(columns, self.aods[aod as usize].columns()),
         };
         catch_all(&mut self.places, aod, atoms);
+        note_caught(&mut self.at_crossings, aod, atoms);
         self.aods[aod as usize] = beams;
     }
 
@@ -89,7 +102,7 @@ impl<'a> Machine<'a> {
             columns: without_all(columns, self.aods[aod as usize].columns()),
         };
         drop_all(&mut self.places, atoms);
-        note_all(&mut self.index, atoms);
+        note_dropped(&mut self.in_traps, atoms);
         self.aods[aod as usize] = beams;
     }
 

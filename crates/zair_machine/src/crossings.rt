@@ -1,23 +1,25 @@
 //! The beams after a step, and what is wrong with where they stand.
 
-ghost use Rattle.std.specs.Prelude.{◌≡◌, ◌<◌, ◌≤◌, ◌⊎◌, ◌↔◌, ℕ, IsTrue, List};
+ghost use Rattle.std.specs.Prelude.{◌≡◌, ◌<◌, ◌≤◌, ◌⊎◌, ◌↔◌, ℕ, IsTrue, List, length};
 ghost use Rattle.std.specs.List.{AllPairs, Any, Contains};
 ghost use Rattle.zair_form.specs.declared.step.Beam.{Beam};
-ghost use Rattle.zair_form.specs.declared.step.Step.TheVariants.{Activate, Move};
+ghost use Rattle.zair_form.specs.declared.step.Step.TheVariants.{Move};
+ghost use Rattle.zair_machine.specs.Crossings.{AreByRisingId, IsNamed, CountNamed};
 ghost use Rattle.zair_state.specs.declared.fault.BeamId.{BeamId};
 ghost use Rattle.zair_state.specs.Faults.{beams_after, IsOutOfOrder, IsTooNear, TouchesAt, IsOnTrapWithAtom, DoTouch};
 ghost use Rattle.zair_state.specs.FirstFault.{AreMetBefore};
 ghost use Rattle.zair_state.specs.Least.{IsLeastOf, IsFirstBeam, IsLeastPairOf};
 ghost use Rattle.zair_state.specs.Invariant.{IsSound};
-ghost use Rattle.zair_state.specs.State.{HasId};
+ghost use Rattle.zair_state.specs.State.{HasId, IsClear, crossing};
 
 use crate::beams::{has_id, least_out_of_order, least_too_near, with_all};
 use crate::busy::along;
+use crate::counts::{MOST_CROSSINGS, count_named};
 use crate::least::{first_beam, lesser_id_if};
 use crate::machine::Machine;
 use arrayvec::ArrayVec;
 use zac_arch::Point;
-use zair_form::{Beam, Caught, Step};
+use zair_form::{Beam, Step};
 use zair_state::{Axis, BeamId, Place};
 
 /// Whether a row or a column of these ids is among the new ones.
@@ -25,24 +27,6 @@ pub(crate) fn is_new(rows: &[Beam], columns: &[Beam], row: u8, column: u8) -> bo
     ensures { IsTrue result ↔ (Any (λ b. b.id ≡ row) rows.now ⊎ Any (λ b. b.id ≡ column) columns.now) }
 {
     has_id(rows, row) || has_id(columns, column)
-}
-
-/// Whether a caught atom names the crossing of these ids.
-fn is_named(atoms: &[Caught], row: u8, column: u8) -> bool
-    ensures { IsTrue result ↔ Any (λ c. (c.row ≡ row) × (c.column ≡ column)) atoms.now }
-{
-    atoms.iter().any(|c| c.row == row && c.column == column)
-}
-
-/// Whether a row or a column of these ids is among the new ones, and no caught atom names their crossing.
-fn is_new_and_empty(rows: &[Beam], columns: &[Beam], atoms: &[Caught], row: u8, column: u8) -> bool
-    ensures { IsTrue result ↔ ((HasId rows.now row ⊎ HasId columns.now column)
-        × ¬ Any (λ c. (c.row ≡ row) × (c.column ≡ column)) atoms.now) }
-{
-    if !is_new(rows, columns, row, column) {
-        return false;
-    }
-    !is_named(atoms, row, column)
 }
 
 impl<'a> Machine<'a> {
@@ -109,9 +93,10 @@ impl<'a> Machine<'a> {
         first_beam(least_too_near(gap, rows), least_too_near(gap, columns))
     }
 
-    /// The least distance of neighbouring beams.
-    fn gap(&self) -> u32
-        ensures { result ≡ self.now.card.figures.gap }
+    /// The least distance of neighbouring beams: 1 at least.
+    pub(crate) fn gap(&self) -> u32
+        ensures gap { result ≡ self.now.card.figures.gap }
+        ensures least { 1 ≤ self.now.card.figures.gap }
     {
         self.card().figures().gap
     }
@@ -143,21 +128,23 @@ impl<'a> Machine<'a> {
         aod: u8,
         rows: &[Beam],
         columns: &[Beam],
-        atoms: &[Caught],
+        named: bool,
         row: Beam,
         column: Beam,
     ) -> bool
-        ensures { IsTrue result ↔ TouchesAt self.now.card self.now.state (Activate aod rows.now columns.now atoms.now) row column }
+        ensures { IsTrue result ↔ ((HasId rows.now row.id ⊎ HasId columns.now column.id) × ¬ IsTrue named
+            × ¬ IsClear self.now.card self.now.state aod (crossing row column)) }
     {
-        let empty = is_new_and_empty(rows, columns, atoms, row.id, column.id);
-        empty
-            && !self.is_clear(
-                aod,
-                Point {
-                    x: column.at,
-                    y: row.at,
-                },
-            )
+        if named || !is_new(rows, columns, row.id, column.id) {
+            return false;
+        }
+        !self.is_clear(
+            aod,
+            Point {
+                x: column.at,
+                y: row.at,
+            },
+        )
     }
 
     /// Whether a crossing that was moved isn't clear, and isn't one that holds an atom on a trap.
@@ -181,8 +168,10 @@ impl<'a> Machine<'a> {
         !clear && !self.is_on_trap_with_atom(aod, row, column)
     }
 
-    /// Whether the crossing of a row and a column after a step comes too near.
-    fn touches(&self, step: &Step, row: Beam, column: Beam) -> bool
+    /// Whether the crossing of a row and a column after a step comes too near, where it is told whether a caught atom
+    /// names it.
+    fn touches(&self, step: &Step, row: Beam, column: Beam, named: bool) -> bool
+        requires { IsTrue named ↔ IsNamed step.now row.id column.id }
         ensures { IsTrue result ↔ TouchesAt self.now.card self.now.state step.now row column }
     {
         match step {
@@ -190,13 +179,13 @@ impl<'a> Machine<'a> {
                 aod,
                 rows,
                 columns,
-                atoms,
+                ..
             } => {
                 self.touches_new(
                     *aod,
                     rows.as_slice(),
                     columns.as_slice(),
-                    atoms.as_slice(),
+                    named,
                     row,
                     column,
                 )
@@ -212,14 +201,17 @@ impl<'a> Machine<'a> {
         }
     }
 
-    /// The least column whose crossing with a row comes too near.
-    fn touching_column(&self, step: &Step, row: Beam, columns: &[Beam]) -> Option<u8>
+    /// The least column whose crossing with a row comes too near, where counts tell which crossings are named.
+    fn touching_column(&self, step: &Step, row: Beam, columns: &[Beam], counts: &[u8]) -> Option<u8>
+        requires room { length columns.now ≤ length counts.now }
+        requires named { CountNamed step.now row.id columns.now counts.now }
         ensures { IsLeastOf (λ id. (column : Beam) × Contains columns.now column
             × TouchesAt self.now.card self.now.state step.now row column × (column.id ≡ id)) result }
     {
         let mut least = None;
-        for column in columns {
-            least = lesser_id_if(least, self.touches(step, row, *column), column.id);
+        for j in 0..columns.len() {
+            let touches = self.touches(step, row, columns[j], 0 < counts[j]);
+            least = lesser_id_if(least, touches, columns[j].id);
         }
         least
     }
@@ -228,11 +220,15 @@ impl<'a> Machine<'a> {
     pub(crate) fn touch(&self, step: &Step, rows: &[Beam], columns: &[Beam]) -> Option<(u8, u8)>
         requires rows_after { rows.now ≡ beams_after self.now.state step.now Axis.Row }
         requires columns_after { columns.now ≡ beams_after self.now.state step.now Axis.Column }
-        requires rising { AllPairs (λ b c. b.id < c.id) rows.now }
+        requires rows_rising { AreByRisingId rows.now }
+        requires columns_rising { AreByRisingId columns.now }
         ensures { IsLeastPairOf (DoTouch self.now.card self.now.state step.now) result }
     {
-        for row in rows {
-            if let Some(column) = self.touching_column(step, *row, columns) {
+        let mut counts = [0u8; MOST_CROSSINGS];
+        count_named(step, rows, columns, &mut counts);
+        for i in 0..rows.len() {
+            let (row, counts) = (rows[i], &counts[i * 64..]);
+            if let Some(column) = self.touching_column(step, row, columns, counts) {
                 return Some((row.id, column));
             }
         }

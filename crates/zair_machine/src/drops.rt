@@ -1,12 +1,12 @@
 //! What is wrong with the atoms that a step drops or takes onto full traps.
 
-ghost use Rattle.std.specs.Prelude.{◌≡◌, ◌<◌, ◌⊎◌, ◌↔◌, ℕ, IsTrue, MatchOption, length, map};
+ghost use Rattle.std.specs.Prelude.{◌≡◌, ◌<◌, ◌≤◌, ◌⊎◌, ◌↔◌, ℕ, IsTrue, MatchOption, Some, length, slice_get, slice_index_or};
 ghost use Rattle.std.specs.List.{AllPairs, All, Any, Contains};
-ghost use Rattle.zac_arch.specs.Architecture.{StandsAt, trap_count};
+ghost use Rattle.zac_arch.specs.Architecture.{StandsAt};
 ghost use Rattle.zac_arch.specs.declared.place.TrapId.{TrapId};
 ghost use Rattle.zair_form.specs.declared.step.Beam.{Beam};
 ghost use Rattle.zair_state.specs.declared.place.Place.TheVariants.{Trap, Held};
-ghost use Rattle.zair_state.specs.Faults.{IsTwice};
+ghost use Rattle.zair_machine.specs.Crossings.{IsWrongDrop, IsLeftBehind, CarriesOntoFull};
 ghost use Rattle.zair_state.specs.Legal.{Drops};
 ghost use Rattle.zair_state.specs.Least.{IsLeastOf};
 ghost use Rattle.zair_state.specs.State.{IsAt, beams_of, crossing};
@@ -45,29 +45,11 @@ fn is_left(place: Place, aod: u8, rows: &[u8], columns: &[u8]) -> bool
     }
 }
 
-/// Whether a qubit is among the dropped atoms.
-fn is_dropped(atoms: &[Dropped], q: u32) -> bool
-    ensures { IsTrue result ↔ Any (λ d. d.q ≡ q) atoms.now }
+/// Whether a crossing has the count 0, and its row is switched off or its column is.
+fn is_uncounted(count: u8, off: bool, columns_off: &[u8], column: u8) -> bool
+    ensures { IsTrue result ↔ ((count ≡ 0) × (IsTrue off ⊎ Contains columns_off.now column)) }
 {
-    atoms.iter().any(|d| d.q == q)
-}
-
-/// Whether a qubit is among the dropped atoms, looked for from the last one on.
-fn is_dropped_before(atoms: &[Dropped], q: u32) -> bool
-    ensures { IsTrue result ↔ Any (λ d. d.q ≡ q) atoms.now }
-{
-    atoms.iter().rev().any(|d| d.q == q)
-}
-
-/// The least qubit that is dropped twice.
-pub(crate) fn least_dropped_twice(atoms: &[Dropped]) -> Option<u32>
-    ensures { IsLeastOf (IsTwice (map (λ d. d.q) atoms.now)) result }
-{
-    let mut least = None;
-    for (k, d) in atoms.iter().enumerate() {
-        least = lesser_if(least, is_dropped_before(&atoms[..k], d.q), d.q);
-    }
-    least
+    count == 0 && (off || is_listed(columns_off, column))
 }
 
 impl<'a> Machine<'a> {
@@ -106,60 +88,89 @@ impl<'a> Machine<'a> {
         self.hangs_over(place, d.trap)
     }
 
-    /// The least qubit of a dropped atom that can't be dropped so.
+    /// Whether a listed atom can't be dropped so, or is counted more than once.
+    fn is_wrong_drop(&self, aod: u8, rows: &[u8], columns: &[u8], d: Dropped, counts: &[u8]) -> bool
+        requires known { d.q < length self.now.state.places }
+        requires room { length counts.now ≡ 4096 }
+        ensures { IsTrue result ↔ IsWrongDrop self.now.card self.now.state aod rows.now columns.now counts.now d }
+    {
+        if !self.drops(aod, rows, columns, d) {
+            return true;
+        }
+        self.is_repeated(aod, counts, d.q)
+    }
+
+    /// The least qubit of a listed atom that can't be dropped so, or is counted more than once.
     pub(crate) fn least_wrong_drop(
         &self,
         aod: u8,
         rows: &[u8],
         columns: &[u8],
         atoms: &[Dropped],
+        counts: &[u8],
     ) -> Option<u32>
-        requires { All (λ d. d.q < length self.now.state.places) atoms.now }
-        ensures { IsLeastOf (λ q. Any (λ d. (d.q ≡ q) × ¬ Drops self.now.card self.now.state aod rows.now columns.now d) atoms.now) result }
+        requires known { All (λ d. d.q < length self.now.state.places) atoms.now }
+        requires room { length counts.now ≡ 4096 }
+        ensures { IsLeastOf (λ q. Any (λ d. (d.q ≡ q) × IsWrongDrop self.now.card self.now.state aod rows.now columns.now counts.now d) atoms.now) result }
     {
         let mut least = None;
         for d in atoms {
-            least = lesser_if(least, !self.drops(aod, rows, columns, *d), d.q);
+            least = lesser_if(
+                least,
+                self.is_wrong_drop(aod, rows, columns, *d, counts),
+                d.q,
+            );
         }
         least
     }
 
-    /// Whether the atom of a qubit is held at a crossing that is switched off, and isn't listed.
-    fn is_left_behind(
+    /// The least qubit whose atom is held at a crossing of a row that is switched off, or of a column that is, and that
+    /// has the count 0.
+    fn left_in_row(
         &self,
         aod: u8,
-        rows: &[u8],
-        columns: &[u8],
-        atoms: &[Dropped],
-        q: u32,
-    ) -> bool
-        requires { q < length self.now.state.places }
-        ensures { IsTrue result ↔ ((row : ℕ) × (column : ℕ) × IsAt self.now.state q (Held aod row column)
-            × (Contains rows.now row ⊎ Contains columns.now column) × ¬ Any (λ d. d.q ≡ q) atoms.now) }
+        row: u8,
+        off: bool,
+        columns_off: &[u8],
+        columns: &[Beam],
+        counts: &[u8],
+    ) -> Option<u32>
+        requires { length columns.now ≤ length counts.now }
+        ensures { IsLeastOf (λ q. (j : ℕ) × (c : Beam) × (slice_get columns.now j ≡ Some c) × IsAt self.now.state q (Held aod row c.id)
+            × (IsTrue off ⊎ Contains columns_off.now c.id) × (slice_index_or counts.now j 0 ≡ 0)) result }
     {
-        if !is_left(self.place(q), aod, rows, columns) {
-            return false;
+        let mut least = None;
+        for j in 0..columns.len() {
+            let column = columns[j].id;
+            let left = is_uncounted(counts[j], off, columns_off, column);
+            least = lesser(least, self.held_if(left, aod, row, column));
         }
-        !is_dropped(atoms, q)
+        least
     }
 
-    /// The least qubit whose atom is held at a crossing that is switched off, and isn't listed.
+    /// The least qubit whose atom is held at a crossing that is switched off and has the count 0.
     pub(crate) fn least_left_behind(
         &self,
         aod: u8,
         rows: &[u8],
         columns: &[u8],
-        atoms: &[Dropped],
+        counts: &[u8],
     ) -> Option<u32>
-        ensures { IsLeastOf (λ q. (row : ℕ) × (column : ℕ) × IsAt self.now.state q (Held aod row column)
-            × (Contains rows.now row ⊎ Contains columns.now column) × ¬ Any (λ d. d.q ≡ q) atoms.now) result }
+        requires room { length counts.now ≡ 4096 }
+        ensures { IsLeastOf (IsLeftBehind self.now.state aod rows.now columns.now counts.now) result }
     {
-        for q in 0..self.qubits() {
-            if self.is_left_behind(aod, rows, columns, atoms, q) {
-                return Some(q);
-            }
+        let _sound = self.most_beams();
+        let (on_rows, on_columns) = (self.active(aod, Axis::Row), self.active(aod, Axis::Column));
+        let mut least = None;
+        for i in 0..on_rows.len() {
+            let row = on_rows[i].id;
+            let off = is_listed(rows, row);
+            least = lesser(
+                least,
+                self.left_in_row(aod, row, off, columns, on_columns, &counts[i * 64..]),
+            );
         }
-        None
+        least
     }
 
     /// The trap over which a move takes the atom of a place of its AOD, where it holds an atom.
@@ -197,6 +208,40 @@ impl<'a> Machine<'a> {
         }
     }
 
+    /// Whether a trap with an atom stands at a point.
+    fn is_full_at(&self, p: Point) -> bool
+        ensures { IsTrue result ↔ ((t : TrapId) × StandsAt self.now.card t.0 p × ((q : ℕ) × IsAt self.now.state q (Trap t))) }
+    {
+        self.full_trap_at(p).is_some()
+    }
+
+    /// The least qubit whose atom a move takes with a row exactly onto a trap that holds an atom.
+    fn full_in_row(&self, aod: u8, row: Beam, columns: &[Beam]) -> Option<u32>
+        ensures { IsLeastOf (λ q. (c : Beam) × Contains columns.now c × CarriesOntoFull self.now.card self.now.state aod row c q) result }
+    {
+        let mut least = None;
+        for column in columns {
+            let full = self.is_full_at(Point {
+                x: column.at,
+                y: row.at,
+            });
+            least = lesser(least, self.held_if(full, aod, row.id, column.id));
+        }
+        least
+    }
+
+    /// The least qubit whose atom a move takes exactly onto a trap that holds an atom.
+    fn least_over_full(&self, aod: u8, rows: &[Beam], columns: &[Beam]) -> Option<u32>
+        ensures { IsLeastOf (λ q. (r : Beam) × (c : Beam) × Contains rows.now r × Contains columns.now c
+            × CarriesOntoFull self.now.card self.now.state aod r c q) result }
+    {
+        let mut least = None;
+        for row in rows {
+            least = lesser(least, self.full_in_row(aod, *row, columns));
+        }
+        least
+    }
+
     /// The least qubit whose atom a move takes exactly onto a trap that holds an atom, and that trap.
     pub(crate) fn least_full(
         &self,
@@ -217,12 +262,13 @@ impl<'a> Machine<'a> {
             × IsAt self.now.state q (Held aod r.id c.id) × StandsAt self.now.card t.0 (crossing r c)
             × ((p : ℕ) × IsAt self.now.state p (Trap t))) → (f.0 < q) ⊎ ((f.0 ≡ q) × (t ≡ f.1)))) }
     {
-        for q in 0..self.qubits() {
-            if let Some(t) = self.full_trap(aod, rows, columns, self.place(q)) {
-                return Some((q, t));
-            }
+        match self.least_over_full(aod, rows, columns) {
+            None => None,
+            Some(q) => match self.full_trap(aod, rows, columns, self.place(q)) {
+                None => None,
+                Some(t) => Some((q, t)),
+            },
         }
-        None
     }
 }
 

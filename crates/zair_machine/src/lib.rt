@@ -5,6 +5,7 @@ mod aod;
 mod apply;
 mod beams;
 mod busy;
+mod counts;
 mod crossings;
 mod drops;
 mod least;

@@ -1,13 +1,15 @@
 //! The machine: a state that steps change.
 
-ghost use Rattle.std.specs.Prelude.{◌≡◌, ℕ, ◌<◌, ◌↔◌, ◌≢◌, IsTrue, IfErr, MatchOption, OnOk, Some, length};
+ghost use Rattle.std.specs.Prelude.{◌≡◌, ℕ, ◌+◌, ◌*◌, ◌<◌, ◌↔◌, ◌≢◌, IsTrue, IfErr, MatchOption, OnOk, Some, length, slice_get};
 ghost use Rattle.zac_arch.specs.Architecture.{StandsAt, IsLit};
 ghost use Rattle.zac_arch.specs.Distances.{IsFarther};
 ghost use Rattle.zair_state.specs.Faults.{active};
 ghost use Rattle.zair_state.specs.FirstFault.{IsFirstFault};
+ghost use Rattle.zair_machine.specs.Crossings.{crossing_number};
+ghost use Rattle.zair_state.specs.Least.{IsLeastOf};
 ghost use Rattle.zair_state.specs.Legal.{IsLegal};
 ghost use Rattle.zair_state.specs.Result.{after};
-ghost use Rattle.zair_state.specs.declared.place.Place.TheVariants.{Trap};
+ghost use Rattle.zair_state.specs.declared.place.Place.TheVariants.{Trap, Held};
 ghost use Rattle.zair_state.specs.State.{IsAt, EachCrossing, crossing, IsFreeOfOthers, IsClear, beams_of};
 
 use crate::aod::Aod;
@@ -27,7 +29,9 @@ pub struct Machine<'a> {
     pub(crate) places: Vec<Place>,
     pub(crate) aods: Vec<Aod>,
     /// For each trap with an atom the qubit; of another trap any number.
-    pub(crate) index: Vec<u32>,
+    pub(crate) in_traps: Vec<u32>,
+    /// For each crossing with an atom, at the place of its number, the qubit; of another crossing any number.
+    pub(crate) at_crossings: Vec<u32>,
 }
 
 impl<'a> Model for Machine<'a> {
@@ -37,7 +41,24 @@ impl<'a> Model for Machine<'a> {
 
     ghost view = { λ m. record { card = m.card.now; state = record { places = m.places.items; aods = m.aods.items } } };
 
-    ghost invariant = { λ m. IsKept m.card.now (record { places = m.places.items; aods = m.aods.items }) m.index.items };
+    ghost invariant = { λ m. IsKept m.card.now (record { places = m.places.items; aods = m.aods.items })
+        m.in_traps.items m.at_crossings.items };
+}
+
+/// The number of the crossing of an AOD's row and column of these ids.
+pub(crate) fn crossing_number(aod: u8, row: u8, column: u8) -> usize
+    ensures number { result ≡ crossing_number aod row column }
+    ensures below { result < aod * 65536 + 65536 }
+    ensures ids { (row < 256) × (column < 256) }
+{
+    usize::from(aod) * 65536 + (usize::from(row) * 256 + usize::from(column))
+}
+
+/// The number at a place of a list.
+fn number_at(numbers: &[u32], place: usize) -> Option<u32>
+    ensures { result ≡ slice_get numbers.now place }
+{
+    numbers.get(place).copied()
 }
 
 /// Whether a point is farther than the reach from every crossing of an AOD: farther than that of the nearest row and
@@ -194,16 +215,6 @@ impl<'a> Machine<'a> {
         self.is_free(aod, p)
     }
 
-    /// The qubit at a place: that of a trap by the index.
-    pub(crate) fn atom_at(&self, place: Place) -> Option<u32>
-        ensures { MatchOption result ((q : ℕ) → ¬ IsAt self.now.state q place) (λ q. IsAt self.now.state q place) }
-    {
-        match place {
-            Place::Trap(t) => self.atom_in(t),
-            Place::Held { .. } => self.atom_held(place),
-        }
-    }
-
     /// Whether a qubit is at a place.
     fn is_at(&self, q: u32, place: Place) -> bool
         ensures { IsTrue result ↔ IsAt self.now.state q place }
@@ -212,43 +223,53 @@ impl<'a> Machine<'a> {
         (q as usize) < self.places.len() && self.places[q as usize] == place
     }
 
-    /// The number that the index has for a trap. It is the qubit there, if there is one.
-    fn noted(&self, t: TrapId) -> Option<u32>
+    /// The number that the index of traps has for a trap. It is the qubit there, if there is one.
+    fn noted_in(&self, t: TrapId) -> Option<u32>
         ensures { (q : ℕ) → IsAt self.now.state q (Trap t) → result ≡ Some q }
     {
         let _ = &self.card;
-        if self.index.len() <= t.0 as usize {
-            return None;
-        }
-        Some(self.index[t.0 as usize])
+        number_at(self.in_traps.as_slice(), t.0 as usize)
     }
 
-    /// The qubit that rests in a trap.
-    fn atom_in(&self, t: TrapId) -> Option<u32>
-        ensures { MatchOption result ((q : ℕ) → ¬ IsAt self.now.state q (Trap t)) (λ q. IsAt self.now.state q (Trap t)) }
-    {
-        match self.noted(t) {
-            None => None,
-            Some(q) => {
-                if self.is_at(q, Place::Trap(t)) {
-                    Some(q)
-                } else {
-                    None
-                }
-            }
-        }
-    }
-
-    /// The qubit at a place, looked for among all.
-    fn atom_held(&self, place: Place) -> Option<u32>
-        ensures { MatchOption result ((q : ℕ) → ¬ IsAt self.now.state q place) (λ q. IsAt self.now.state q place) }
+    /// The number that the index of crossings has for a crossing. It is the qubit there, if there is one.
+    fn noted_at(&self, aod: u8, row: u8, column: u8) -> Option<u32>
+        ensures { (q : ℕ) → IsAt self.now.state q (Held aod row column) → result ≡ Some q }
     {
         let _ = &self.card;
-        for (q, p) in self.places.iter().enumerate() {
-            if *p == place {
-                return Some(q as u32);
-            }
+        number_at(
+            self.at_crossings.as_slice(),
+            crossing_number(aod, row, column),
+        )
+    }
+
+    /// The number that an index has for a place. It is the qubit there, if there is one.
+    fn noted(&self, place: Place) -> Option<u32>
+        ensures { (q : ℕ) → IsAt self.now.state q place → result ≡ Some q }
+    {
+        match place {
+            Place::Trap(t) => self.noted_in(t),
+            Place::Held { aod, row, column } => self.noted_at(aod, row, column),
         }
-        None
+    }
+
+    /// The qubit at a place.
+    pub(crate) fn atom_at(&self, place: Place) -> Option<u32>
+        ensures { MatchOption result ((q : ℕ) → ¬ IsAt self.now.state q place) (λ q. IsAt self.now.state q place) }
+    {
+        match self.noted(place) {
+            None => None,
+            Some(q) => { if self.is_at(q, place) { Some(q) } else { None } }
+        }
+    }
+
+    /// The qubit whose atom a crossing of an AOD holds, where a test is passed.
+    pub(crate) fn held_if(&self, test: bool, aod: u8, row: u8, column: u8) -> Option<u32>
+        ensures { IsLeastOf (λ q. IsTrue test × IsAt self.now.state q (Held aod row column)) result }
+    {
+        let _sound = self.most_beams();
+        if !test {
+            return None;
+        }
+        self.atom_at(Place::Held { aod, row, column })
     }
 }

@@ -1,6 +1,6 @@
 //! The machine at the begin.
 
-ghost use Rattle.std.specs.Prelude.{◌≡◌, ℕ, IfOk, MatchResult, Some, length, map, replicate, slice_get};
+ghost use Rattle.std.specs.Prelude.{◌≡◌, ℕ, ◌*◌, IfOk, MatchResult, Some, length, map, replicate, slice_get};
 ghost use Rattle.zac_arch.specs.Architecture.{trap_count};
 ghost use Rattle.zac_arch.specs.declared.place.TrapId.{TrapId};
 ghost use Rattle.zair_state.specs.Least.{IsLeastOf};
@@ -67,6 +67,13 @@ fn index_of(alloc: Global, card: &Card, homes: &[TrapId]) -> Result<Vec<u32>, Me
     Ok(index)
 }
 
+/// A number for each crossing that so many AODs can have.
+fn empty_crossings(alloc: Global, count: u8) -> Result<Vec<u32>, Memory>
+    ensures { IfOk result (λ index. length index.items ≡ count * 65536) }
+{
+    Ok(vec![in alloc; 0; count as usize * 65536]?)
+}
+
 impl<'a> Machine<'a> {
     /// The machine of a card at the begin: each qubit rests in its home, the trap at the place of its number in
     /// `homes`, and no AOD has a beam. It borrows the card.
@@ -82,14 +89,17 @@ impl<'a> Machine<'a> {
         if let Some(q) = first_wrong_home(alloc, card, homes)? {
             return Err(NewFault::Home { q });
         }
-        let index = index_of(alloc, card, homes)?;
+        let in_traps = index_of(alloc, card, homes)?;
         let places = at_rest(alloc, homes)?;
-        let aods = idle_aods(alloc, card.figures().aods)?;
+        let count = card.figures().aods;
+        let aods = idle_aods(alloc, count)?;
+        let at_crossings = empty_crossings(alloc, count)?;
         Ok(Machine {
             card,
             places,
             aods,
-            index,
+            in_traps,
+            at_crossings,
         })
     }
 }

@@ -1,17 +1,18 @@
 //! What is wrong with the atoms that a step lists.
 
-ghost use Rattle.std.specs.Prelude.{◌≡◌, ◌<◌, ◌⊎◌, ◌↔◌, ◌≢◌, ℕ, IsTrue, Some, length, slice_get};
+ghost use Rattle.std.specs.Prelude.{◌≡◌, ◌<◌, ◌⊎◌, ◌↔◌, IsTrue, length};
 ghost use Rattle.std.specs.List.{AllPairs, All, Any, Contains};
 ghost use Rattle.zac_arch.specs.Architecture.{StandsAt};
 ghost use Rattle.zac_arch.specs.declared.place.TrapId.{TrapId};
 ghost use Rattle.zair_form.specs.declared.step.Beam.{Beam};
 ghost use Rattle.zair_form.specs.declared.step.Caught.{Caught};
-ghost use Rattle.zair_state.specs.Faults.{AreSameCatch};
+ghost use Rattle.zair_machine.specs.Crossings.{AreByRisingId, IsWrongPick};
 ghost use Rattle.zair_state.specs.Legal.{Picks};
 ghost use Rattle.zair_state.specs.Least.{IsLeastOf};
 ghost use Rattle.zair_state.specs.State.{IsAt, IsFreeOfOthers};
 
 use crate::beams::point_of;
+use crate::counts::is_shared;
 use crate::crossings::is_new;
 use crate::least::lesser_if;
 use crate::machine::Machine;
@@ -24,36 +25,6 @@ use zair_state::Place;
 pub(crate) struct Listed<'b> {
     pub(crate) rows: &'b [Beam],
     pub(crate) columns: &'b [Beam],
-}
-
-/// Whether two caught atoms are of one qubit or at one crossing.
-fn are_same_catch(c: Caught, d: Caught) -> bool
-    ensures { IsTrue result ↔ AreSameCatch c d }
-{
-    c.q == d.q || (c.row == d.row && c.column == d.column)
-}
-
-/// Whether one of the caught atoms is of the same qubit or at the same crossing, looked for from the last one on.
-fn is_shared(atoms: &[Caught], c: Caught) -> bool
-    ensures { IsTrue result ↔ Any (λ d. AreSameCatch c d) atoms.now }
-{
-    atoms.iter().rev().any(|d| are_same_catch(c, *d))
-}
-
-/// Whether one of the caught atoms is of the same qubit or at the same crossing.
-fn is_shared_later(atoms: &[Caught], c: Caught) -> bool
-    ensures { IsTrue result ↔ Any (λ d. AreSameCatch c d) atoms.now }
-{
-    atoms.iter().any(|d| are_same_catch(c, *d))
-}
-
-/// Whether a caught atom other than the one at a place is of the same qubit or at the same crossing. It looks from the
-/// nearest on, so that the time grows with the list and not with its square: there are few crossings.
-fn is_shared_with_another(atoms: &[Caught], k: usize, c: Caught) -> bool
-    requires { k < length atoms.now }
-    ensures { IsTrue result ↔ ((d : Caught) × (j : ℕ) × (slice_get atoms.now j ≡ Some d) × (k ≢ j) × AreSameCatch c d) }
-{
-    is_shared(&atoms[..k], c) || is_shared_later(&atoms[k + 1..], c)
 }
 
 impl<'a> Machine<'a> {
@@ -109,52 +80,46 @@ impl<'a> Machine<'a> {
         }
     }
 
-    /// Whether a listed atom can't be caught, or shares its qubit or its crossing with another one of the list.
+    /// Whether a listed atom can't be caught, or more than one is counted at its crossing.
     fn is_wrong_pick(
         &self,
         aod: u8,
         new: &Listed<'_>,
         after: &Listed<'_>,
-        atoms: &[Caught],
-        k: usize,
+        c: Caught,
+        counts: &[u8],
     ) -> bool
-        requires within { k < length atoms.now }
-        requires known { All (λ c. c.q < length self.now.state.places) atoms.now }
-        requires rows_rising { AllPairs (λ b d. b.id < d.id) after.now.rows.now }
-        requires columns_rising { AllPairs (λ b d. b.id < d.id) after.now.columns.now }
-        ensures { (c : Caught) → slice_get atoms.now k ≡ Some c → (IsTrue result
-            ↔ (¬ Picks self.now.card self.now.state aod new.now.rows.now new.now.columns.now after.now.rows.now after.now.columns.now c
-            ⊎ ((d : Caught) × (j : ℕ) × (slice_get atoms.now j ≡ Some d) × (k ≢ j) × AreSameCatch c d))) }
+        requires known { c.q < length self.now.state.places }
+        requires rows_rising { AreByRisingId after.now.rows.now }
+        requires columns_rising { AreByRisingId after.now.columns.now }
+        requires room { length counts.now ≡ 4096 }
+        ensures { IsTrue result ↔ IsWrongPick self.now.card self.now.state aod new.now.rows.now new.now.columns.now after.now.rows.now after.now.columns.now counts.now c }
     {
-        let c = atoms[k];
         if !self.picks(aod, new, after, c) {
             return true;
         }
-        is_shared_with_another(atoms, k, c)
+        is_shared(after.rows, after.columns, counts, c)
     }
 
-    /// The least qubit of a listed atom that can't be caught, or shares its qubit or its crossing with another one.
+    /// The least qubit of a listed atom that can't be caught, or at whose crossing more than one is counted.
     pub(crate) fn least_wrong_pick(
         &self,
         aod: u8,
         new: &Listed<'_>,
         after: &Listed<'_>,
         atoms: &[Caught],
+        counts: &[u8],
     ) -> Option<u32>
         requires known { All (λ c. c.q < length self.now.state.places) atoms.now }
-        requires rows_rising { AllPairs (λ b d. b.id < d.id) after.now.rows.now }
-        requires columns_rising { AllPairs (λ b d. b.id < d.id) after.now.columns.now }
-        ensures { IsLeastOf (λ q. (c : Caught) × (i : ℕ) × (slice_get atoms.now i ≡ Some c) × (c.q ≡ q)
-            × (¬ Picks self.now.card self.now.state aod new.now.rows.now new.now.columns.now after.now.rows.now after.now.columns.now c
-            ⊎ ((d : Caught) × (j : ℕ) × (slice_get atoms.now j ≡ Some d) × (i ≢ j) × AreSameCatch c d))) result }
+        requires rows_rising { AreByRisingId after.now.rows.now }
+        requires columns_rising { AreByRisingId after.now.columns.now }
+        requires room { length counts.now ≡ 4096 }
+        ensures { IsLeastOf (λ q. Any (λ c. (c.q ≡ q)
+            × IsWrongPick self.now.card self.now.state aod new.now.rows.now new.now.columns.now after.now.rows.now after.now.columns.now counts.now c) atoms.now) result }
     {
         let mut least = None;
-        for k in 0..atoms.len() {
-            least = lesser_if(
-                least,
-                self.is_wrong_pick(aod, new, after, atoms, k),
-                atoms[k].q,
-            );
+        for c in atoms {
+            least = lesser_if(least, self.is_wrong_pick(aod, new, after, *c, counts), c.q);
         }
         least
     }

@@ -3,12 +3,13 @@
 ghost use Rattle.std.specs.Prelude.{◌≡◌, ◌<◌, ◌⊎◌, ℕ, MatchOption};
 ghost use Rattle.std.specs.List.{AllPairs};
 ghost use Rattle.zac_arch.specs.declared.place.TrapId.{TrapId};
+ghost use Rattle.zair_machine.specs.Crossings.{AreByRisingId};
 ghost use Rattle.zair_state.specs.Faults.{beams_after, IsPickWrong, IsDropWrong, IsLitAlone, IsTrapFull};
 ghost use Rattle.zair_state.specs.Least.{IsLeastOf};
 ghost use Rattle.zair_state.specs.FirstFault.{Breaks, IsFirstFault, AreMetBefore, Tells};
 ghost use Rattle.zair_state.specs.Legal.{IsLegal};
 
-use crate::drops::least_dropped_twice;
+use crate::counts::{MOST_CROSSINGS, count_caught};
 use crate::least::lesser;
 use crate::machine::Machine;
 use crate::picks::Listed;
@@ -101,7 +102,8 @@ impl<'a> Machine<'a> {
     fn tell_touch(&self, step: &Step, rows: &[Beam], columns: &[Beam]) -> Option<MachineFault>
         requires rows_after { rows.now ≡ beams_after self.now.state step.now Axis.Row }
         requires columns_after { columns.now ≡ beams_after self.now.state step.now Axis.Column }
-        requires rising { AllPairs (λ b c. b.id < c.id) rows.now }
+        requires rows_rising { AreByRisingId rows.now }
+        requires columns_rising { AreByRisingId columns.now }
         ensures { Tells self.now.card self.now.state step.now 6 result }
     {
         match self.touch(step, rows, columns) {
@@ -112,13 +114,14 @@ impl<'a> Machine<'a> {
 
     /// The least qubit that can't be caught as a step says.
     fn wrong_pick(&self, step: &Step, rows: &[Beam], columns: &[Beam]) -> Option<u32>
-        requires met { AreMetBefore self.now.card self.now.state step.now 1 }
+        requires met { AreMetBefore self.now.card self.now.state step.now 6 }
         requires rows_after { rows.now ≡ beams_after self.now.state step.now Axis.Row }
         requires columns_after { columns.now ≡ beams_after self.now.state step.now Axis.Column }
-        requires rows_rising { AllPairs (λ b c. b.id < c.id) rows.now }
-        requires columns_rising { AllPairs (λ b c. b.id < c.id) columns.now }
+        requires rows_rising { AreByRisingId rows.now }
+        requires columns_rising { AreByRisingId columns.now }
         ensures { IsLeastOf (IsPickWrong self.now.card self.now.state step.now) result }
     {
+        let _least = self.gap();
         let after = Listed { rows, columns };
         match step {
             Step::Activate {
@@ -131,7 +134,10 @@ impl<'a> Machine<'a> {
                     rows: rows.as_slice(),
                     columns: columns.as_slice(),
                 };
-                self.least_wrong_pick(*aod, &new, &after, atoms.as_slice())
+                let atoms = atoms.as_slice();
+                let mut counts = [0u8; MOST_CROSSINGS];
+                count_caught(after.rows, after.columns, atoms, &mut counts);
+                self.least_wrong_pick(*aod, &new, &after, atoms, &counts)
             }
             _ => None,
         }
@@ -154,9 +160,13 @@ impl<'a> Machine<'a> {
                     columns.as_slice(),
                     atoms.as_slice(),
                 );
-                let left = self.least_left_behind(*aod, rows, columns, atoms);
-                let wrong = self.least_wrong_drop(*aod, rows, columns, atoms);
-                lesser(left, lesser(wrong, least_dropped_twice(atoms)))
+                let _sound = self.most_beams();
+                let mut counts = [0u8; MOST_CROSSINGS];
+                self.count_dropped(*aod, atoms, &mut counts);
+                lesser(
+                    self.least_left_behind(*aod, rows, columns, &counts),
+                    self.least_wrong_drop(*aod, rows, columns, atoms, &counts),
+                )
             }
             _ => None,
         }
@@ -201,11 +211,11 @@ impl<'a> Machine<'a> {
 
     /// The least qubit that can't be caught, as a fault.
     fn tell_pick(&self, step: &Step, rows: &[Beam], columns: &[Beam]) -> Option<MachineFault>
-        requires met { AreMetBefore self.now.card self.now.state step.now 1 }
+        requires met { AreMetBefore self.now.card self.now.state step.now 6 }
         requires rows_after { rows.now ≡ beams_after self.now.state step.now Axis.Row }
         requires columns_after { columns.now ≡ beams_after self.now.state step.now Axis.Column }
-        requires rows_rising { AllPairs (λ b c. b.id < c.id) rows.now }
-        requires columns_rising { AllPairs (λ b c. b.id < c.id) columns.now }
+        requires rows_rising { AreByRisingId rows.now }
+        requires columns_rising { AreByRisingId columns.now }
         ensures { Tells self.now.card self.now.state step.now 7 result }
     {
         match self.wrong_pick(step, rows, columns) {
@@ -219,8 +229,8 @@ impl<'a> Machine<'a> {
         requires met { AreMetBefore self.now.card self.now.state step.now 4 }
         requires rows_after { rows.now ≡ beams_after self.now.state step.now Axis.Row }
         requires columns_after { columns.now ≡ beams_after self.now.state step.now Axis.Column }
-        requires rows_rising { AllPairs (λ b c. b.id < c.id) rows.now }
-        requires columns_rising { AllPairs (λ b c. b.id < c.id) columns.now }
+        requires rows_rising { AreByRisingId rows.now }
+        requires columns_rising { AreByRisingId columns.now }
         ensures { MatchOption result (AreMetBefore self.now.card self.now.state step.now 8) (IsFirstFault self.now.card self.now.state step.now) }
     {
         if let Some(fault) = self.tell_order(step, rows, columns) {

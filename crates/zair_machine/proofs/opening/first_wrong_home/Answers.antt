@@ -1,5 +1,4 @@
 use Rattle.std.proofs.Common.{inl, inr, true, false, arith}
-use Rattle.zac_arch.specs.declared.place.TrapId.{TrapId}
 use Rattle.zac_arch.proofs.Geometry.{storage_count_most}
 use Rattle.zair_machine.proofs.Homing.{read_mark, few_right, wrong_here, marked_more, none_wrong_at_end}
 use Rattle.zair_machine.proofs.opening.first_wrong_home.Goals as goal

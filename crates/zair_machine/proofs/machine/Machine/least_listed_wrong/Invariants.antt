@@ -1,4 +1,3 @@
-use Rattle.std.proofs.Common.{◌≡◌}
 use Rattle.zair_state.specs.Least.{IsLeastPairOf}
 use Rattle.zair_machine.proofs.PairWrongs.{WrongBelow, MarkedBelow}
 use Rattle.zair_machine.proofs.machine.Machine.least_listed_wrong.Given as goal

@@ -1,4 +1,4 @@
-use Rattle.std.proofs.Common.{◌≤◌, [], refl, sym, subst}
+use Rattle.std.proofs.Common.{◌≤◌, [], refl, sym, subst, length-set}
 use Rattle.zac_arch.specs.declared.card.Figures.{Figures}
 use Rattle.zair_form.specs.declared.step.Step.TheVariants.{Move}
 use Rattle.zair_state.specs.State.{State}
@@ -28,7 +28,7 @@ pub invariant_of-self : goal.invariant_of-self
 invariant_of-self c =
     let s : State = record { places = c.self.inside.places.items; aods = c.self.inside.aods.items } in
     let legal : IsLegal c.self.inside.card.now s (Move c.args.aod c.args.rows.now c.args.columns.now) = subst (λ (r : Running). IsLegal r.card r.state (Move c.args.aod c.args.rows.now c.args.columns.now)) (sym c.self.view_is) c.requires in
-    kept_so c.self.inside.card.now s _ (after s (Move c.args.aod c.args.rows.now c.args.columns.now)) c.self.inside.index.items c.self.inside.index.items c.self.invariant
+    kept_so c.self.inside.card.now s _ (after s (Move c.args.aod c.args.rows.now c.args.columns.now)) c.self.inside.in_traps.items c.self.inside.in_traps.items c.self.inside.at_crossings.items c.self.inside.at_crossings.items c.self.invariant
     (c.legal_steps_keep_states_sound.ensures.one s (Move c.args.aod c.args.rows.now c.args.columns.now) c.self.invariant.sound legal)
-    refl refl c.self.invariant.told
+    refl (length-set s.aods c.args.aod _) refl refl c.self.invariant.traps_told c.self.invariant.crossings_told
     (set_same s c.args.aod s.places s.places c.with_all.result.items (with_beams c.args.rows.now []) c.with_all-2.result.items (with_beams c.args.columns.now []) refl c.with_all.ensures c.with_all-2.ensures)

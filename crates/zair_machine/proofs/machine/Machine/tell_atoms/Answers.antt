@@ -1,4 +1,4 @@
-use Rattle.std.proofs.Common.{subst, arith}
+use Rattle.std.proofs.Common.{subst}
 use Rattle.zair_state.specs.FirstFault.{Tells}
 use Rattle.zair_machine.proofs.Told.{met_more, end_told}
 use Rattle.zair_machine.proofs.machine.Machine.tell_atoms.Goals as goal

@@ -1,4 +1,4 @@
-use Rattle.zair_state.proofs.Resting.{rest_told, crossing_told, rest_met}
+use Rattle.zair_state.proofs.Resting.{rest_told}
 use Rattle.zair_machine.proofs.machine.Machine.tell_rest.Goals as goal
 
 pub returns-in-Some : goal.returns-in-Some

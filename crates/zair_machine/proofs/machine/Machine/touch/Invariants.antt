@@ -3,5 +3,5 @@ use Rattle.zair_state.specs.Faults.{TouchesAt}
 use Rattle.zair_machine.proofs.Touching.{NoTouch}
 use Rattle.zair_machine.proofs.machine.Machine.touch.Given as goal
 
-abbrev pub invariant-loop-row : goal.invariant-loop-row
-invariant-loop-row l = NoTouch (TouchesAt l.self.card l.self.state l.step) (take l.row-index l.rows) l.columns
+abbrev pub invariant-loop-i : goal.invariant-loop-i
+invariant-loop-i l = NoTouch (TouchesAt l.self.card l.self.state l.step) (take l.i l.rows) l.columns

@@ -5,5 +5,5 @@ use Rattle.zair_state.specs.Least.{IsLeastOf}
 use Rattle.zair_state.proofs.Minima.{KeyOf}
 use Rattle.zair_machine.proofs.machine.Machine.touching_column.Given as goal
 
-abbrev pub invariant-loop-column : goal.invariant-loop-column
-invariant-loop-column l = IsLeastOf (KeyOf (λ (b : Beam). b.id) (TouchesAt l.self.card l.self.state l.step l.row) (take l.column-index l.columns)) l.least
+abbrev pub invariant-loop-j : goal.invariant-loop-j
+invariant-loop-j l = IsLeastOf (KeyOf (λ (b : Beam). b.id) (TouchesAt l.self.card l.self.state l.step l.row) (take l.j l.columns)) l.least
