@@ -13,7 +13,7 @@ use Rattle.zac_aod.specs.Lines.{rows_of}
 use Rattle.zac_aod.specs.Lowering.{Leg, legs, loading, flight, unloading}
 use Rattle.zac_aod.specs.Soundness.{Advances}
 use Rattle.zac_aod.specs.declared.stage.Stage.TheVariants as stage
-use Rattle.zac_aod.proofs.CardLaws.{CardLaws, Grouped}
+use Rattle.zac_aod.specs.CardLaws.{CardLaws, Grouped}
 use Rattle.zac_aod.proofs.CatchLegal.{IsBefore, catch_leads}
 use Rattle.zac_aod.proofs.DropLegal.{drop_leads}
 use Rattle.zac_aod.proofs.LineFacts.{Rise, rows_rise, row_of, has_row}

@@ -23,7 +23,7 @@ use Rattle.zac_aod.specs.Soundness.{IsUndisturbed, IsAtStage}
 use Rattle.zac_aod.specs.declared.stage.Stage.TheVariants as stage
 use Rattle.zac_aod.specs.Stages.{is_loaded, is_over_targets, is_column_active, place_at, row_at, column_at, rows_at, columns_at, beams_over}
 use Rattle.zac_aod.proofs.BeamFacts.{beam_of, has_beam, joined_over, one_line}
-use Rattle.zac_aod.proofs.CardLaws.{CardLaws, Grouped}
+use Rattle.zac_aod.specs.CardLaws.{CardLaws, Grouped}
 use Rattle.zac_aod.proofs.GridFacts.{source_stands}
 use Rattle.zac_aod.proofs.LineFacts.{rows_rise, columns_rise, row_of, column_of, has_row, has_column, one_move}
 use Rattle.zac_aod.proofs.MoveLegal.{Leads}

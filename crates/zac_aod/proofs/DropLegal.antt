@@ -22,7 +22,7 @@ use Rattle.zac_aod.specs.Stages.{is_column_active, place_at, row_at, column_at, 
 use Rattle.zac_aod.specs.declared.line.Line.{Line}
 use Rattle.zac_aod.specs.declared.stage.Stage.TheVariants as stage
 use Rattle.zac_aod.proofs.BeamFacts.{beam_of, has_beam, left_over, one_line}
-use Rattle.zac_aod.proofs.CardLaws.{CardLaws, Grouped}
+use Rattle.zac_aod.specs.CardLaws.{CardLaws, Grouped}
 use Rattle.zac_aod.proofs.CatchLegal.{atom_in_row}
 use Rattle.zac_aod.proofs.DroppedPlaces.{dropped_rests}
 use Rattle.zac_aod.proofs.GridFacts.{target_stands}

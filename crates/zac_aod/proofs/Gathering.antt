@@ -1,9 +1,10 @@
 -- What loops over lines, atoms and rows gather.
-use Rattle.std.proofs.Common.{◌≡◌, ℕ, zero, suc, ◌+◌, ◌-◌, ◌<◌, ◌≤◌, ◌==◌, Bool, true, false, cond, List, [], ◌∷◌, ◌++◌, length, map, filter, take, drop, get_or, refl, sym, ap, ◌∙◌, subst, arith, append_assoc, drop-cons}
+use Rattle.std.proofs.Common.{◌≡◌, ℕ, zero, suc, ◌+◌, ◌-◌, ◌<◌, ◌≤◌, ◌==◌, Bool, true, false, cond, Some, None, List, [], ◌∷◌, ◌++◌, length, map, filter, take, drop, get_or, refl, sym, ap, ◌∙◌, subst, arith, append_assoc, drop-cons}
 use Rattle.std.specs.List.{list_any}
 use Rattle.std.proofs.Math.Seq.{take-suc, take-length}
 use Rattle.std.proofs.lemmas.Grind.{flat_map-append}
-use Rattle.std.proofs.lemmas.Bool.{le-ltb, lt-ltb, eq-eqb, ne_eqb}
+use Rattle.std.proofs.lemmas.Bool.{le-ltb, lt-ltb, eq-eqb, false_from_ne_true, ne_eqb}
+use Rattle.std.proofs.lemmas.Option.{cond_some, none-some}
 use Rattle.std.proofs.lemmas.List.{length-take-le, map-append}
 use Rattle.std.proofs.lemmas.List.Elements.{filter-append}
 use Rattle.zac_arch.specs.Architecture.{Architecture, StandsAt}
@@ -12,9 +13,10 @@ use Rattle.zac_arch.specs.declared.place.TrapId.{TrapId}
 use Rattle.zac_aod.specs.Jobs.{StandAt}
 use Rattle.zac_group.specs.declared.shift.Shift.{Shift}
 use Rattle.zair_form.specs.declared.step.Beam.{Beam}
-use Rattle.zac_aod.specs.Layout.{route_of}
+use Rattle.zac_aod.specs.Layout.{atom_among, atom_of, place_over, route_of}
 use Rattle.zac_aod.specs.Lines.{by_source, with_line, rows_of, columns_of, crossings_of}
 use Rattle.zac_aod.specs.Stages.{beams_over}
+use Rattle.zac_aod.specs.declared.atom.Atom.{Atom}
 use Rattle.zac_aod.specs.declared.line.Line.{Line}
 use Rattle.zac_aod.specs.declared.route.Route.{Route}
 
@@ -86,7 +88,7 @@ beams_to active at lines k d lt =
     ∙ beams_snoc active at 0 (take k lines) (get_or lines k d)
     ∙ ap (λ n. beams_over active at 0 (take k lines) ++ beams_over active at n (get_or lines k d ∷ [])) e
 
-pub beams_on : (active : Line → Bool) (at : Line → ℕ) (lines : List Line) (k : ℕ) (d : Line) → k < length lines → active (get_or lines k d) ≡ true
+beams_on : (active : Line → Bool) (at : Line → ℕ) (lines : List Line) (k : ℕ) (d : Line) → k < length lines → active (get_or lines k d) ≡ true
     → (beams : List Beam) → beams ≡ beams_over active at 0 (take k lines)
     → beams ++ record { id = k; at = at (get_or lines k d) } ∷ [] ≡ beams_over active at 0 (take (k + 1) lines)
 beams_on active at lines k d lt on beams so_far =
@@ -95,11 +97,11 @@ beams_on active at lines k d lt on beams so_far =
     ∙ ap (λ t. beams_over active at 0 (take k lines) ++ cond t (b ∷ []) []) (sym on)
     ∙ sym (beams_to active at lines k d lt)
 
-append_none : {X : Type 0} (xs : List X) → xs ++ [] ≡ xs
+pub append_none : {X : Type 0} (xs : List X) → xs ++ [] ≡ xs
 append_none [] = refl
 append_none (x ∷ xs) = ap (λ ys. x ∷ ys) (append_none xs)
 
-pub beams_off : (active : Line → Bool) (at : Line → ℕ) (lines : List Line) (k : ℕ) (d : Line) → k < length lines → active (get_or lines k d) ≡ false
+beams_off : (active : Line → Bool) (at : Line → ℕ) (lines : List Line) (k : ℕ) (d : Line) → k < length lines → active (get_or lines k d) ≡ false
     → (beams : List Beam) → beams ≡ beams_over active at 0 (take k lines) → beams ≡ beams_over active at 0 (take (k + 1) lines)
 beams_off active at lines k d lt off beams so_far =
     so_far
@@ -116,21 +118,30 @@ pub columns_of_routes : (a : Architecture) (shifts : List Shift) → by_source (
 columns_of_routes a [] = refl
 columns_of_routes a (s ∷ ss) = ap (with_line (route_of a s).column) (columns_of_routes a ss)
 
+pub atoms_of_routes : (a : Architecture) (columns : List Line) (shifts : List Shift) → map (atom_among columns) (map (route_of a) shifts) ≡ map (λ (s : Shift). atom_among columns (route_of a s)) shifts
+atoms_of_routes a columns [] = refl
+atoms_of_routes a columns (s ∷ ss) = ap (λ (ts : List Atom). atom_among columns (route_of a s) ∷ ts) (atoms_of_routes a columns ss)
+
+-- rows and columns, as they are made from routes that are read by other names
+pub rows_read : (a : Architecture) (shifts : List Shift) {rows lines lines' : List Line} {routes routes' : List Route} → rows ≡ by_source lines' → lines' ≡ lines → lines ≡ map (λ (r : Route). r.row) routes' → routes' ≡ routes → routes ≡ map (route_of a) shifts
+    → rows ≡ rows_of a shifts
+rows_read a shifts made same lines read routes = made ∙ ap by_source (same ∙ lines ∙ ap (map (λ (r : Route). r.row)) (read ∙ routes)) ∙ rows_of_routes a shifts
+
+pub columns_read : (a : Architecture) (shifts : List Shift) {columns lines lines' : List Line} {routes routes' : List Route} → columns ≡ by_source lines' → lines' ≡ lines → lines ≡ map (λ (r : Route). r.column) routes' → routes' ≡ routes → routes ≡ map (route_of a) shifts
+    → columns ≡ columns_of a shifts
+columns_read a shifts made same lines read routes = made ∙ ap by_source (same ∙ lines ∙ ap (map (λ (r : Route). r.column)) (read ∙ routes)) ∙ columns_of_routes a shifts
+
+pub atoms_read : (a : Architecture) (shifts : List Shift) {atoms : List Atom} {routes routes' : List Route} {columns columns' : List Line} → atoms ≡ map (atom_among columns') routes' → columns' ≡ columns → columns ≡ columns_of a shifts → routes' ≡ routes → routes ≡ map (route_of a) shifts
+    → atoms ≡ map (atom_of a shifts) shifts
+atoms_read a shifts {routes' = routes'} made same columns read routes =
+    made ∙ ap (λ (ls : List Line). map (atom_among ls) routes') (same ∙ columns) ∙ ap (map (atom_among (columns_of a shifts))) (read ∙ routes) ∙ atoms_of_routes a (columns_of a shifts) shifts
+
 -- what holds of some atom holds of that of some move
 pub any_of_map : {X Y : Type 0} (p : Y → Bool) (f : X → Y) (xs : List X) → list_any p (map f xs) ≡ list_any (λ (x : X). p (f x)) xs
 any_of_map p f [] = refl
 any_of_map p f (x ∷ xs) = grind (arith, any_of_map p f xs)
 
--- what is taken of some atoms is taken of some moves
-kept_map : {X Y Z : Type 0} (g : Y → Z) (f : X → Y) (t : Bool) (x : X) (ys : List Y) (xs : List X) → map g ys ≡ map (λ (x : X). g (f x)) xs
-    → map g (cond t (f x ∷ ys) ys) ≡ map (λ (x : X). g (f x)) (cond t (x ∷ xs) xs)
-kept_map g f true x ys xs e = ap (λ zs. g (f x) ∷ zs) e
-kept_map g f false x ys xs e = e
-
-pub map_filter_map : {X Y Z : Type 0} (g : Y → Z) (p : Y → Bool) (f : X → Y) (xs : List X) → map g (filter p (map f xs)) ≡ map (λ (x : X). g (f x)) (filter (λ (x : X). p (f x)) xs)
-map_filter_map g p f [] = refl
-map_filter_map {X = X} g p f (x ∷ xs) = kept_map g f (p (f x)) x (filter p (map f xs)) (filter (λ (x : X). p (f x)) xs) (map_filter_map g p f xs)
-
+-- one more is taken, or not
 taken_more : {X Y : Type 0} (f : X → Y) (p : X → Bool) (xs : List X) (k : ℕ) (d : X) → k < length xs
     → map f (filter p (take (k + 1) xs)) ≡ map f (filter p (take k xs)) ++ map f (filter p (get_or xs k d ∷ []))
 taken_more f p xs k d lt =
@@ -138,7 +149,6 @@ taken_more f p xs k d lt =
     ∙ ap (map f) (filter-append p (take k xs) (get_or xs k d ∷ []))
     ∙ map-append f (filter p (take k xs)) (filter p (get_or xs k d ∷ []))
 
--- one more is taken, or not
 pub taken_on : {X Y : Type 0} (f : X → Y) (p : X → Bool) (xs : List X) (k : ℕ) (d : X) → k < length xs → p (get_or xs k d) ≡ true
     → (ys : List Y) → ys ≡ map f (filter p (take k xs)) → ys ++ f (get_or xs k d) ∷ [] ≡ map f (filter p (take (k + 1) xs))
 taken_on f p xs k d lt on ys so_far =
@@ -185,20 +195,23 @@ grid_more points xs ys k d lt =
     ∙ ap (λ zs. points ++ (crossings_of xs (take k ys) ++ zs)) (append_none (row (get_or ys k d)))
     ∙ sym (append_assoc points (crossings_of xs (take k ys)) (row (get_or ys k d)))
 
--- the same of a list that is read by another name
-pub beams_on_of : (active : Line → Bool) (at : Line → ℕ) (read lines : List Line) → read ≡ lines → (k : ℕ) (d : Line) → k < length read → active (get_or read k d) ≡ true
-    → (beams : List Beam) → beams ≡ beams_over active at 0 (take k lines)
-    → beams ++ record { id = k; at = at (get_or read k d) } ∷ [] ≡ beams_over active at 0 (take (k + 1) lines)
-beams_on_of active at read lines e k d lt on beams so_far =
-    subst (λ (ls : List Line). beams ≡ beams_over active at 0 (take k ls) → beams ++ record { id = k; at = at (get_or read k d) } ∷ [] ≡ beams_over active at 0 (take (k + 1) ls)) e
-    (beams_on active at read k d lt on beams) so_far
+-- a line that is given a place, or none
+pub placed_on : (active : Line → Bool) (at : Line → ℕ) (lines : List Line) (k : ℕ) (d : Line) → k < length lines → (place : ℕ) → Some place ≡ place_over active at (get_or lines k d)
+    → (beams : List Beam) → beams ≡ beams_over active at 0 (take k lines) → beams ++ record { id = k; at = place } ∷ [] ≡ beams_over active at 0 (take (k + 1) lines)
+placed_on active at lines k d lt place given beams so_far =
+    let l : Line = get_or lines k d in
+    let on = cond_some (active l) (at l) place (sym given) in
+    ap (λ (n : ℕ). beams ++ record { id = k; at = n } ∷ []) (sym on.1) ∙ beams_on active at lines k d lt on.0 beams so_far
 
-pub beams_off_of : (active : Line → Bool) (at : Line → ℕ) (read lines : List Line) → read ≡ lines → (k : ℕ) (d : Line) → k < length read → active (get_or read k d) ≡ false
+pub placed_off : (active : Line → Bool) (at : Line → ℕ) (lines : List Line) (k : ℕ) (d : Line) → k < length lines → None ≡ place_over active at (get_or lines k d)
     → (beams : List Beam) → beams ≡ beams_over active at 0 (take k lines) → beams ≡ beams_over active at 0 (take (k + 1) lines)
-beams_off_of active at read lines e k d lt off beams so_far =
-    subst (λ (ls : List Line). beams ≡ beams_over active at 0 (take k ls) → beams ≡ beams_over active at 0 (take (k + 1) ls)) e
-    (beams_off active at read k d lt off beams) so_far
+placed_off active at lines k d lt given beams so_far =
+    let l : Line = get_or lines k d in
+    beams_off active at lines k d lt
+    (false_from_ne_true (active l) (λ on. none-some (at l) (given ∙ ap (λ b. cond b (Some (at l)) None) on)))
+    beams so_far
 
+-- the same of a list that is read by another name
 pub taken_on_of : {X Y : Type 0} (f : X → Y) (p : X → Bool) (read xs : List X) → read ≡ xs → (k : ℕ) (d : X) → k < length read → p (get_or read k d) ≡ true
     → (ys : List Y) → ys ≡ map f (filter p (take k xs)) → ys ++ f (get_or read k d) ∷ [] ≡ map f (filter p (take (k + 1) xs))
 taken_on_of f p read xs e k d lt on ys so_far =

@@ -1,5 +1,5 @@
 -- In each move of a job some beam goes somewhere.
-use Rattle.std.proofs.Common.{◌≡◌, ◌≢◌, ℕ, ◌+◌, ◌-◌, ◌<◌, ◌≤◌, min, max, inl, inr, Bool, true, false, not, eqb, ltb, if◌then◌else◌, Option, None, Some, List, [], ◌∷◌, ◌++◌, map, fold, refl, sym, ap, ◌∙◌, subst, arith, eq-eqb}
+use Rattle.std.proofs.Common.{◌≡◌, ◌≢◌, ℕ, ◌+◌, ◌<◌, ◌≤◌, min, max, inl, inr, Bool, true, false, not, eqb, ltb, if◌then◌else◌, Option, None, Some, List, [], ◌∷◌, ◌++◌, map, fold, refl, sym, ap, ◌∙◌, subst, arith, eq-eqb}
 use Rattle.std.specs.List.{Contains, flat_map}
 use Rattle.std.specs.Option.{option_map_or}
 use Rattle.std.specs.Prelude.{◌==◌, ◌&&◌, ◌⊎◌, nat_le}
@@ -7,29 +7,27 @@ use Rattle.std.proofs.lemmas.Bool.{and_from, and_parts, cases_Bool, cases_eq, ca
 use Rattle.std.proofs.lemmas.List.{append-nil, append_assoc}
 use Rattle.std.proofs.lemmas.List.Concat.{flat_map-append}
 use Rattle.std.proofs.lemmas.List.Elements.{All-contains}
-use Rattle.zac_arch.specs.Architecture.{Architecture, StandsAt}
-use Rattle.zac_arch.specs.Distances.{difference, IsFarther}
+use Rattle.zac_arch.specs.Architecture.{Architecture}
+use Rattle.zac_arch.specs.Distances.{difference}
 use Rattle.zac_arch.specs.Parking.{IsCorner}
 use Rattle.zac_arch.specs.declared.place.Point.{Point}
-use Rattle.zac_arch.specs.declared.place.TrapId.{TrapId}
-use Rattle.zac_group.specs.Moves.{source_x, source_y, target_x, target_y}
+use Rattle.zac_group.specs.Moves.{source_x, source_y}
 use Rattle.zac_group.specs.declared.shift.Shift.{Shift}
 use Rattle.zair_form.specs.Times.{rows_set, columns_set, last_at, change, greatest_change}
 use Rattle.zair_form.specs.declared.step.Beam.{Beam}
 use Rattle.zair_form.specs.declared.step.Step.{Step}
 use Rattle.zair_state.specs.Chain.{GoesSomewhere, EachGoesSomewhere}
 use Rattle.zair_state.proofs.Changing.{not_farther_there}
-use Rattle.zair_state.proofs.Membership.{contains_none, contains_here, contains_later, contains_cases, contains_map, pairs_head}
+use Rattle.zair_state.proofs.Membership.{contains_none, contains_here, contains_cases, contains_map, pairs_head}
 use Rattle.zac_aod.specs.Lines.{rows_of, columns_of, number_of, has_atom}
-use Rattle.zac_aod.specs.Lowering.{Leg, is_used_before, catch_row, move_to, drop_row, loading, flight, unloading, legs, job_steps}
-use Rattle.zac_aod.specs.Stages.{is_loaded, is_in_place, is_column_active, place_of, row_at, column_at, rows_at, columns_at, beams_over}
+use Rattle.zac_aod.specs.Lowering.{Leg, is_used_before, catch_row, move_to, drop_row, loading, flight, unloading, job_steps}
+use Rattle.zac_aod.specs.Stages.{is_loaded, is_column_active, row_at, column_at, rows_at, columns_at, beams_over}
 use Rattle.zac_aod.specs.declared.line.Line.{Line}
-use Rattle.zac_aod.specs.declared.stage.Stage.{Stage}
 use Rattle.zac_aod.specs.declared.stage.Stage.TheVariants as stage
 use Rattle.zac_aod.proofs.Advancing.{AreAhead, next_ahead, first_ahead, neighbours, rises, last_row}
 use Rattle.zac_aod.proofs.BeamFacts.{beam_of, from_line, has_beam, one_line, rising_over}
-use Rattle.zac_aod.proofs.CardLaws.{CardLaws, Grouped}
-use Rattle.zac_aod.proofs.GridFacts.{source_stands, target_stands, source_is_no_target, target_trap}
+use Rattle.zac_aod.specs.CardLaws.{CardLaws, Grouped}
+use Rattle.zac_aod.proofs.GridFacts.{source_stands, target_stands, source_is_no_target}
 use Rattle.zac_aod.proofs.JobSteps.{steps_in}
 use Rattle.zac_aod.proofs.LastPlaces.{given_once, set_last, not_given}
 use Rattle.zac_aod.proofs.LineFacts.{Rise, rows_rise, columns_rise, row_of, column_of, has_row, has_column, atom_of_row}

@@ -13,7 +13,7 @@ use Rattle.zair_state.proofs.Membership.{contains_map}
 use Rattle.zac_aod.specs.Lines.{rows_of, columns_of}
 use Rattle.zac_aod.specs.declared.line.Line.{Line}
 use Rattle.zac_aod.specs.Soundness.{IsOnGrids}
-use Rattle.zac_aod.proofs.CardLaws.{CardLaws, Grouped}
+use Rattle.zac_aod.specs.CardLaws.{CardLaws, Grouped}
 use Rattle.zac_aod.proofs.LineFacts.{atom_of_row, atom_of_column, one_or_compatible, row_lands_below, column_lands_below}
 
 between : (a : Architecture) (shifts : List Shift) → Grouped a shifts → (s : Shift) → Contains shifts s → IsBetweenKinds a s

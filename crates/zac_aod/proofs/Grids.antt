@@ -9,7 +9,7 @@ use Rattle.zac_group.specs.declared.shift.Shift.{Shift}
 use Rattle.zair_state.proofs.Membership.{all_from_contains, contained_in_map}
 use Rattle.zac_aod.specs.Lines.{rows_of, columns_of, source_points, target_points}
 use Rattle.zac_aod.specs.declared.line.Line.{Line}
-use Rattle.zac_aod.proofs.CardLaws.{CardLaws, Grouped}
+use Rattle.zac_aod.specs.CardLaws.{CardLaws, Grouped}
 use Rattle.zac_aod.proofs.GridFacts.{source_trap, target_trap, rows_on_field, columns_on_field}
 
 -- a trap stands there

@@ -20,7 +20,7 @@ use Rattle.zac_aod.specs.declared.line.Line.{Line}
 use Rattle.zac_aod.specs.declared.stage.Stage.TheVariants as stage
 use Rattle.zac_aod.proofs.BeamFacts.{beam_of, has_beam, rising_over}
 use Rattle.zac_aod.proofs.BeamPlaces.{line_at, line_of_id, has_place, has_number}
-use Rattle.zac_aod.proofs.CardLaws.{Grouped}
+use Rattle.zac_aod.specs.CardLaws.{Grouped}
 use Rattle.zac_aod.proofs.ColumnUses.{first_use, last_use}
 use Rattle.zac_aod.proofs.JobSteps.{Kind, catches, moves, drops, kind_of, catches_row}
 use Rattle.zac_aod.proofs.LastPlaces.{lasts, last_rows_are, last_columns_are, given_once, Stood, in_job_lasts, has_job_lasts}

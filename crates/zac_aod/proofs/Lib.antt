@@ -1,4 +1,3 @@
-pub mod CardLaws
 pub mod Comparing
 pub mod LineLists
 pub mod LineFacts
@@ -30,3 +29,5 @@ pub mod ColumnUses
 pub mod JobResources
 pub mod OtherAods
 pub mod Goings
+pub mod Lookups
+pub mod Spans

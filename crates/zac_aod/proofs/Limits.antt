@@ -14,7 +14,7 @@ use Rattle.zac_aod.specs.Stages.{beams_over, is_loaded, is_in_place, is_column_a
 use Rattle.zac_aod.specs.declared.line.Line.{Line}
 use Rattle.zac_aod.specs.declared.stage.Stage.{Stage}
 use Rattle.zac_aod.specs.declared.stage.Stage.TheVariants as stage
-use Rattle.zac_aod.proofs.CardLaws.{CardLaws, Grouped}
+use Rattle.zac_aod.specs.CardLaws.{CardLaws, Grouped}
 use Rattle.zac_aod.proofs.GridFacts.{rows_on_field, columns_on_field}
 use Rattle.zac_aod.proofs.LineFacts.{few_rows, few_columns}
 use Rattle.zac_aod.proofs.StageBeams.{field_at}

@@ -9,7 +9,7 @@ use Rattle.zac_group.specs.declared.shift.Shift.{Shift}
 use Rattle.zair_state.proofs.Membership.{contains_map, contained_in_map, one_or_related}
 use Rattle.zac_aod.specs.Lines.{rows_of, columns_of}
 use Rattle.zac_aod.specs.declared.line.Line.{Line}
-use Rattle.zac_aod.proofs.CardLaws.{Grouped}
+use Rattle.zac_aod.specs.CardLaws.{Grouped}
 use Rattle.zac_aod.proofs.Comparing.{equal_as, less_as, greater_as}
 pub use Rattle.zac_aod.proofs.LineLists.{Rise, rise_by_source, contained_in_by_source, sources_stay, length_by_source}
 

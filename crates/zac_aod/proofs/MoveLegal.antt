@@ -18,7 +18,7 @@ use Rattle.zac_aod.specs.Lowering.{Leg, move_to}
 use Rattle.zac_aod.specs.Soundness.{IsUndisturbed, IsAtStage}
 use Rattle.zac_aod.specs.Stages.{is_loaded, is_column_active, place_at, row_at, column_at, rows_at, columns_at}
 use Rattle.zac_aod.proofs.BeamFacts.{rising_over, listed_anew}
-use Rattle.zac_aod.proofs.CardLaws.{CardLaws, Grouped}
+use Rattle.zac_aod.specs.CardLaws.{CardLaws, Grouped}
 use Rattle.zac_aod.proofs.LineFacts.{atom_of_row}
 use Rattle.zac_aod.proofs.OverTraps.{crossings_legal, held_at, rests_at, atom_at}
 use Rattle.zac_aod.proofs.StageBeams.{lists_over, rows_are_placed, columns_are_placed}

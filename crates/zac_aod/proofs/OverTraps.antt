@@ -20,7 +20,7 @@ use Rattle.zac_aod.specs.Lines.{rows_of, columns_of, number_of}
 use Rattle.zac_aod.specs.Soundness.{IsAtGrids, IsApartFromOthers, IsUndisturbed, IsAtStage}
 use Rattle.zac_aod.specs.Stages.{is_loaded, place_at, rows_at, columns_at}
 use Rattle.zac_aod.specs.declared.stage.Stage.TheVariants.{Waiting, Caught, Parked, Landed, Dropped}
-use Rattle.zac_aod.proofs.CardLaws.{CardLaws, Grouped}
+use Rattle.zac_aod.specs.CardLaws.{CardLaws, Grouped}
 use Rattle.zac_aod.proofs.GridFacts.{source_is_no_target}
 use Rattle.zac_aod.proofs.StageFacts.{trap_at, at_crossings}
 use Rattle.zac_aod.specs.declared.stage.Stage.{Stage}

@@ -26,7 +26,7 @@ use Rattle.zac_aod.specs.Stages.{is_loaded, is_over_targets, is_column_active, b
 use Rattle.zac_aod.specs.declared.line.Line.{Line}
 use Rattle.zac_aod.specs.declared.stage.Stage.{Stage}
 use Rattle.zac_aod.specs.declared.stage.Stage.TheVariants as stage
-use Rattle.zac_aod.proofs.CardLaws.{Grouped}
+use Rattle.zac_aod.specs.CardLaws.{Grouped}
 use Rattle.zac_aod.proofs.JobSteps.{steps_in}
 use Rattle.zac_aod.proofs.LineFacts.{Rise, rows_rise, has_row, row_of, atom_of_row}
 use Rattle.zac_aod.proofs.Undisturbed.{Keeps, keeps_itself, keeps_further, length_dropping, step_keeps, stays_undisturbed}

@@ -14,7 +14,7 @@ use Rattle.zac_aod.specs.Stages.{is_loaded, is_in_place, is_column_active, place
 use Rattle.zac_aod.specs.declared.stage.Stage.TheVariants.{Waiting, Caught, Parked, Landed, Dropped}
 use Rattle.zac_aod.specs.Lines.{has_atom}
 use Rattle.zac_aod.proofs.BeamFacts.{beam_of, from_line, has_beam, one_line, rising_over, placed_over, few_over}
-use Rattle.zac_aod.proofs.CardLaws.{CardLaws, Grouped}
+use Rattle.zac_aod.specs.CardLaws.{CardLaws, Grouped}
 use Rattle.zac_aod.proofs.GridFacts.{HasRoom, IsOnField, rows_have_room, columns_have_room, rows_on_field, columns_on_field}
 use Rattle.zac_aod.proofs.LineFacts.{Rise, rows_rise, columns_rise, few_rows, few_columns}
 use Rattle.zac_aod.proofs.Tests.{at_most_parked, at_least_there, pairs_among}

@@ -17,7 +17,7 @@ use Rattle.zac_aod.specs.Soundness.{IsAtGrids}
 use Rattle.zac_aod.specs.Stages.{is_loaded, is_in_place, is_over_targets, is_column_active, place_of, row_at, column_at, rows_at, columns_at, row_in_turn}
 use Rattle.zac_aod.specs.declared.stage.Stage.TheVariants.{Waiting, Caught, Parked, Landed, Dropped}
 use Rattle.zac_aod.proofs.BeamFacts.{beam_of, from_line}
-use Rattle.zac_aod.proofs.CardLaws.{CardLaws, Grouped}
+use Rattle.zac_aod.specs.CardLaws.{CardLaws, Grouped}
 use Rattle.zac_aod.proofs.GridFacts.{GridTrap, source_trap, target_trap, source_stands, target_stands}
 use Rattle.zac_aod.proofs.LineFacts.{rows_rise, columns_rise, row_of, column_of, has_row, has_column}
 use Rattle.zac_aod.proofs.Tests.{passing, at_or_parked, in_its_place, beyond_its_place}

@@ -6,3 +6,4 @@ pub mod Jobs
 pub mod Resources
 pub mod Aods
 pub mod Layout
+pub mod CardLaws

@@ -2,6 +2,7 @@
 
 ghost use Rattle.std.specs.Prelude.{ℕ, ◌^◌, ◌*◌, ◌<◌, ◌≤◌, All, List, [], length};
 ghost use Rattle.std.specs.List.{AllByRecursion};
+ghost use Rattle.zac_aod.specs.CardLaws.{CardLaws};
 ghost use Rattle.zac_aod.specs.Lowering.{legs, job_steps};
 ghost use Rattle.zac_aod.specs.Resources.{HasResources};
 ghost use Rattle.zac_aod.specs.Soundness.{IsSoundJob, Advances};
@@ -14,6 +15,16 @@ ghost use Rattle.zair_state.specs.Chain.{EachGoesSomewhere};
 
 use zac_arch::{Card, laws_of_parking, laws_of_traps, laws_of_zones};
 
+/// What jobs rest on, of the laws of a card's traps, of parking and of zones.
+pub(crate) fn card_laws(card: &Card)
+    ensures { CardLaws card.now }
+{
+    laws_of_traps(card);
+    laws_of_parking(card);
+    laws_of_zones(card);
+    let _rules = card.figures();
+}
+
 /// A law: the steps of a job are sound, whatever the group and the AOD; and each step is legal wherever the job is at the
 /// stage before it and nothing disturbs it, and leads to the next stage.
 pub fn jobs_are_sound(card: &Card)
@@ -22,10 +33,7 @@ pub fn jobs_are_sound(card: &Card)
     ensures advances { (shifts : List Shift) → (aod : ℕ) → IsGroup (record { card = card.now; shifts = shifts })
         → Advances card.now shifts aod stage.Waiting (legs card.now shifts aod) }
 {
-    laws_of_traps(card);
-    laws_of_parking(card);
-    laws_of_zones(card);
-    let _rules = card.figures();
+    card_laws(card);
 }
 
 /// A law: what the steps of a job carry is in the ranges of the text form, where the qubits and the AOD are; they take at
@@ -40,9 +48,7 @@ pub fn job_limits(card: &Card)
     ensures moves { (shifts : List Shift) → (aod : ℕ) → IsGroup (record { card = card.now; shifts = shifts })
         → EachGoesSomewhere [] (job_steps card.now shifts aod) }
 {
-    laws_of_traps(card);
-    laws_of_parking(card);
-    laws_of_zones(card);
+    card_laws(card);
     let _count = card.traps();
     let _rules = card.figures();
 }

@@ -7,6 +7,7 @@
 //! HPCA 2025; the parking is this project's own).
 #![tactic(auto)]
 
+mod atom;
 mod beams;
 mod grid;
 mod job;
@@ -15,6 +16,7 @@ mod layout;
 mod line;
 mod lowering;
 mod route;
+mod span;
 mod stage;
 mod steps;
 

@@ -10,10 +10,10 @@ ghost use Rattle.zair_form.specs.Times.{LastTogether};
 
 use crate::grid::{add_grid, sources, targets};
 use crate::job::Job;
-use crate::laws::{job_limits, jobs_are_sound};
+use crate::laws::{card_laws, job_limits, jobs_are_sound};
 use crate::layout::Layout;
 use std::alloc::Global;
-use zac_arch::{Card, TrapId, laws_of_parking, laws_of_traps, laws_of_zones};
+use zac_arch::{Card, TrapId};
 use zac_gates::List;
 use zac_group::{Group, Shift};
 use zac_memory::Memory;
@@ -24,7 +24,7 @@ impl Layout<'_> {
     fn steps(&self, alloc: Global) -> Result<Vec<Step>, Memory>
         ensures { IfOk result (λ steps. steps.items ≡ job_steps self.now.card.now self.now.shifts.now 0) }
     {
-        let mut steps = Vec::with_capacity(alloc, 4 * self.rows.len())?;
+        let mut steps = Vec::with_capacity(alloc, (4 * self.rows.len()).saturating_sub(1))?;
         self.load(alloc, &mut steps)?;
         self.fly(alloc, &mut steps)?;
         self.unload(alloc, &mut steps)?;
@@ -37,11 +37,8 @@ impl Layout<'_> {
         ensures { IfOk result (λ traps. StandAt self.now.card.now traps.items
             (source_points self.now.card.now self.now.shifts.now ++ target_points self.now.card.now self.now.shifts.now)) }
     {
-        laws_of_traps(self.card);
-        laws_of_parking(self.card);
-        laws_of_zones(self.card);
-        let _rules = self.card.figures();
-        let mut traps = Vec::new(alloc);
+        card_laws(self.card);
+        let mut traps = Vec::with_capacity(alloc, 2 * self.rows.len() * self.columns.len())?;
         let xs = sources(alloc, self.columns.as_slice())?;
         let ys = sources(alloc, self.rows.as_slice())?;
         add_grid(self.card, xs.as_slice(), ys.as_slice(), &mut traps)?;

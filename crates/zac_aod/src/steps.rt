@@ -18,33 +18,32 @@ impl Layout<'_> {
     fn caught_in(&self, alloc: Global, row: u32) -> Result<Vec<Caught>, Memory>
         ensures { IfOk result (λ atoms. atoms.items ≡ map (caught self.now.card.now self.now.shifts.now) (moves_of_row self.now.card.now self.now.shifts.now row)) }
     {
-        let mut atoms = Vec::new(alloc);
-        for route in &self.routes {
-            if route.row.from == row {
-                atoms.push(Caught {
-                    q: route.q,
-                    row: number_of(self.rows.as_slice(), route.row.from),
-                    column: number_of(self.columns.as_slice(), route.column.from),
-                })?;
-            }
+        let number = number_of(self.rows.as_slice(), row);
+        let atoms = self.atoms_of(row);
+        let mut caught = Vec::with_capacity(alloc, atoms.len())?;
+        for atom in atoms {
+            caught.push(Caught {
+                q: atom.q,
+                row: number,
+                column: atom.column,
+            })?;
         }
-        Ok(atoms)
+        Ok(caught)
     }
 
     /// The atoms of the row with this source, as they are dropped.
     fn dropped_in(&self, alloc: Global, row: u32) -> Result<Vec<Dropped>, Memory>
         ensures { IfOk result (λ atoms. atoms.items ≡ map dropped (moves_of_row self.now.card.now self.now.shifts.now row)) }
     {
-        let mut atoms = Vec::new(alloc);
-        for route in &self.routes {
-            if route.row.from == row {
-                atoms.push(Dropped {
-                    q: route.q,
-                    trap: route.to,
-                })?;
-            }
+        let atoms = self.atoms_of(row);
+        let mut dropped = Vec::with_capacity(alloc, atoms.len())?;
+        for atom in atoms {
+            dropped.push(Dropped {
+                q: atom.q,
+                trap: atom.to,
+            })?;
         }
-        Ok(atoms)
+        Ok(dropped)
     }
 
     /// The step that loads the row with this source.

@@ -1,33 +1,13 @@
-use Rattle.std.proofs.Common.{◌≡◌, ℕ, ◌+◌, ◌*◌, ◌<◌, ◌≤◌, ◌^◌, inl, inr, subst, arith}
+use Rattle.std.proofs.Common.{ℕ, ◌<◌, ◌≤◌, ◌^◌, inl, inr, subst, arith}
 use Rattle.std.proofs.lemmas.List.Elements.{All-contains}
-use Rattle.zac_arch.specs.Architecture.{Architecture, storage_count, site_count, trap_count}
+use Rattle.zac_arch.specs.Architecture.{Architecture, storage_count, trap_count}
 use Rattle.zac_arch.specs.Rules.{HasFigureRanges}
-use Rattle.zac_arch.specs.declared.card.Figures.{Figures}
 use Rattle.zac_group.specs.Moves.{IsBetweenKinds}
 use Rattle.zac_group.specs.declared.shift.Shift.{Shift}
-use Rattle.zac_aod.proofs.CardLaws.{CardLaws}
 use Rattle.zac_aod.proofs.Durations.{job_quick}
 use Rattle.zac_aod.proofs.Goings.{job_goes}
 use Rattle.zac_aod.proofs.Limits.{InRanges, job_fits}
 use Rattle.zac_aod.proofs.laws.job_limits.Goals as goal
-
-no_fewer : (traps storage sites : ℕ) → traps ≡ storage + 2 * sites → storage ≤ traps
-no_fewer traps storage sites e = omega arith
-
-card_laws : (c : goal.After-figures-rules) → CardLaws c.args.card.now
-card_laws c = record {
-  one_trap = c.laws_of_traps.ensures.one_trap;
-  on_the_field = c.laws_of_traps.ensures.on_the_field;
-  corners_apart = c.laws_of_parking.ensures.corners_apart;
-  parked_apart = c.laws_of_parking.ensures.parked_apart;
-  one_zone = c.laws_of_zones.ensures.one_zone;
-  one_kind = c.laws_of_zones.ensures.one_kind;
-  grid = c.laws_of_zones.ensures.grid;
-  columns = c.laws_of_zones.ensures.columns;
-  rows = c.laws_of_zones.ensures.rows;
-  counts = no_fewer (trap_count c.args.card.now) (storage_count c.args.card.now) (site_count c.args.card.now) c.laws_of_traps.ensures.counts;
-  park_least = subst (λ (f : Figures). 1 ≤ f.park) c.figures-rules.ensures.figures c.figures-rules.ensures.ranges.park_least;
-}
 
 target_inside : (a : Architecture) (s : Shift) → storage_count a ≤ trap_count a → trap_count a < 2 ^ 32 → IsBetweenKinds a s → s.to.0 < 2 ^ 32
 target_inside a s counts few (inl h) = omega (arith, h.1.1)
@@ -39,7 +19,7 @@ ranges c = subst HasFigureRanges c.figures-rules.ensures.figures c.figures-rules
 pub returns-clause-fits : goal.returns-clause-fits
 returns-clause-fits c = λ shifts aod g le small.
     let r = ranges c in
-    let laws = card_laws c in
+    let laws = c.card_laws.ensures in
     let few : trap_count c.args.card.now < 2 ^ 32 = subst (λ (n : ℕ). n < 2 ^ 32) c.traps-count.ensures c.traps-count.type_inv in
     let here : InRanges c.args.card.now shifts = record {
       rows = r.rows_most;
@@ -53,4 +33,4 @@ pub returns-clause-quick : goal.returns-clause-quick
 returns-clause-quick c = λ shifts aod t g is. job_quick c.args.card.now (ranges c) shifts aod t is
 
 pub returns-clause-moves : goal.returns-clause-moves
-returns-clause-moves c = λ shifts aod g. job_goes c.args.card.now shifts (card_laws c) g aod
+returns-clause-moves c = λ shifts aod g. job_goes c.args.card.now shifts c.card_laws.ensures g aod

@@ -1,16 +1,27 @@
-use Rattle.std.proofs.Common.{◌==◌, ◌&&◌, Bool, ap, ◌∙◌, rules, tests}
-use Rattle.std.specs.List.{list_any}
-use Rattle.std.proofs.lemmas.Iterator.{YieldsList-from_slice}
-use Rattle.std.proofs.lemmas.Iterator.Search.{any_from_yields_List}
-use Rattle.zac_aod.specs.Layout.{route_of}
+use Rattle.std.proofs.Common.{◌≡◌, ◌||◌, true, false, get_or, ap, sym, ◌∙◌}
 use Rattle.zac_aod.specs.Stages.{is_loaded}
-use Rattle.zac_aod.specs.declared.route.Route.{Route}
-use Rattle.zac_aod.proofs.Gathering.{any_of_map}
+use Rattle.zac_aod.specs.declared.span.Span.{Span}
+use Rattle.zac_aod.proofs.Spans.{active_by_span}
 use Rattle.zac_aod.proofs.layout.Layout.is_column_active.Goals as goal
 
-pub returns : goal.returns
-returns c =
-    let test : Route → Bool = λ r. is_loaded c.args.stage r.row.from && r.column.from == c.args.column.from in
-    any_from_yields_List test _ _ _ c.any.ensures.ran (YieldsList-from_slice c.args.self.now.routes.items cc) (λ x b q k. search (rules, tests))
-    ∙ ap (list_any test) c.args.self.now.routes_are
-    ∙ any_of_map test (route_of c.args.self.now.card.now) c.args.self.now.shifts.now
+pub returns-then-is_loaded : goal.returns-then-is_loaded
+returns-then-is_loaded c = λ d.
+    let span : Span = c.index-span.result.now in
+    let stage = c.args.stage in
+    let first : is_loaded stage span.first ≡ true = sym c.is_loaded.ensures ∙ c.if-is_loaded.true in
+    c.if-is_loaded.true
+    ∙ ap (λ b. b || is_loaded stage span.last) (sym first)
+    ∙ ap (λ (s : Span). is_loaded stage s.first || is_loaded stage s.last) c.index-span.ensures
+    ∙ active_by_span c.args.self.now.card.now c.args.self.now.shifts.now (get_or c.args.self.now.columns.items c.args.column d)
+    (get_or c.args.self.now.spans.items c.args.column span) stage (c.args.self.now.spans_are.each c.args.column d span c.requires)
+
+pub returns-else-is_loaded : goal.returns-else-is_loaded
+returns-else-is_loaded c = λ d.
+    let span : Span = c.index-span.result.now in
+    let stage = c.args.stage in
+    let first : is_loaded stage span.first ≡ false = sym c.is_loaded.ensures ∙ c.if-is_loaded.false in
+    c.is_loaded-else-is_loaded.ensures
+    ∙ ap (λ b. b || is_loaded stage span.last) (sym first)
+    ∙ ap (λ (s : Span). is_loaded stage s.first || is_loaded stage s.last) c.index-span.ensures
+    ∙ active_by_span c.args.self.now.card.now c.args.self.now.shifts.now (get_or c.args.self.now.columns.items c.args.column d)
+    (get_or c.args.self.now.spans.items c.args.column span) stage (c.args.self.now.spans_are.each c.args.column d span c.requires)

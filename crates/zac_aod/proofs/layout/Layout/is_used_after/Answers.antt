@@ -1,15 +1,13 @@
-use Rattle.std.proofs.Common.{◌==◌, ◌&&◌, nat_lt, Bool, ap, ◌∙◌, rules, tests}
-use Rattle.std.specs.List.{list_any}
-use Rattle.std.proofs.lemmas.Iterator.{YieldsList-from_slice}
-use Rattle.std.proofs.lemmas.Iterator.Search.{any_from_yields_List}
-use Rattle.zac_aod.specs.Layout.{route_of}
-use Rattle.zac_aod.specs.declared.route.Route.{Route}
-use Rattle.zac_aod.proofs.Gathering.{any_of_map}
+use Rattle.std.proofs.Common.{nat_lt, get_or, ap, ◌∙◌}
+use Rattle.zac_aod.specs.declared.span.Span.{Span}
+use Rattle.zac_aod.proofs.Spans.{used_after}
 use Rattle.zac_aod.proofs.layout.Layout.is_used_after.Goals as goal
 
 pub returns : goal.returns
-returns c =
-    let test : Route → Bool = λ r. nat_lt c.args.row r.row.from && r.column.from == c.args.column.from in
-    any_from_yields_List test _ _ _ c.any.ensures.ran (YieldsList-from_slice c.args.self.now.routes.items cc) (λ x b q k. search (rules, tests))
-    ∙ ap (list_any test) c.args.self.now.routes_are
-    ∙ any_of_map test (route_of c.args.self.now.card.now) c.args.self.now.shifts.now
+returns c = λ d.
+    let a = c.args.self.now.card.now in
+    let shifts = c.args.self.now.shifts.now in
+    let span : Span = c.index.result.now in
+    ap (λ (s : Span). nat_lt c.args.row s.last) c.index.ensures
+    ∙ used_after a shifts (get_or c.args.self.now.columns.items c.args.column d) (get_or c.args.self.now.spans.items c.args.column span) c.args.row
+    (c.args.self.now.spans_are.each c.args.column d span c.requires)

@@ -1,5 +1,5 @@
--- What a proof of this crate takes from the laws of a card.
-use Rattle.std.proofs.Common.{◌≡◌, ◌≢◌, ℕ, ◌+◌, ◌<◌, ◌≤◌, List}
+-- Inside: what the proofs of this crate take from the laws of a card.
+use Rattle.std.specs.Prelude.{◌≡◌, ◌≢◌, ℕ, ◌+◌, ◌<◌, ◌≤◌, List}
 use Rattle.zac_arch.specs.Architecture.{Architecture, StandsAt, IsInZone, storage_count, trap_count}
 use Rattle.zac_arch.specs.Distances.{IsFarther}
 use Rattle.zac_arch.specs.Parking.{IsCorner, IsParkedBeside}
