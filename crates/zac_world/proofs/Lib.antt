@@ -1,1 +1,8 @@
-mod PlacesFacts
+pub mod PlacesFacts
+mod SpanFacts
+mod GridFacts
+mod BlockFacts
+pub mod WalkFacts
+pub mod ListFacts
+mod NearestFacts
+pub mod RankFacts

@@ -36,6 +36,13 @@ mate_from_trap a left right q t placed is =
     let same : m.0 ≡ t = same_Some m.0 t (sym (trap_from_mate left q m.0 m.1) ∙ is) in
     m.1 ∙ ap (λ (s : ℕ). Some s) same
 
+-- it is a trap of the card
+pub trap_in_card : (a : Architecture) (left right : List (Option ℕ)) (q : ℕ) → ArePlaced a left right → IsPairing left right → q < length left → unwrap_or (mate left q) 0 < trap_count a
+trap_in_card a left right q placed pairing within =
+    let m = some_mate left q (placed.placed q within) in
+    let value : unwrap_or (mate left q) 0 ≡ m.0 = ap (λ (o : Option ℕ). unwrap_or o 0) m.1 in
+    omega (arith, value, mate_in right m.0 q (pairing.there q m.0 m.1), placed.all_traps)
+
 -- a trap is empty exactly where it has no partner
 pub empty_from_none : (a : Architecture) (left right : List (Option ℕ)) (t : ℕ) → ArePlaced a left right → IsPairing left right → mate right t ≡ None → IsTrue (is_empty (traps_of left) t)
 empty_from_none a left right t placed pairing none =

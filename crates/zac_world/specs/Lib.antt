@@ -1,1 +1,5 @@
 pub mod Places
+pub mod Nearest
+pub mod Blocks
+pub mod Walks
+pub mod Around

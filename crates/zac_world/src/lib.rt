@@ -1,6 +1,10 @@
 //! Where the atoms of a plan rest: each qubit in a trap of its own.
 #![tactic(auto)]
 
+mod block;
+mod nearest;
+mod span;
+mod walk;
 mod world;
 
 pub use world::World;

@@ -47,7 +47,8 @@ impl<'a> World<'a> {
     /// The trap in which a qubit rests.
     pub fn trap_of(&self, q: u32) -> TrapId
         requires { q < length self.now.traps }
-        ensures { slice_get self.now.traps q ≡ Some result.0 }
+        ensures rests { slice_get self.now.traps q ≡ Some result.0 }
+        ensures in_card { result.0 < trap_count self.now.architecture }
     {
         TrapId(self.pairing.left[q as usize].unwrap_or(0))
     }

@@ -1,0 +1,7 @@
+pub mod PlacingFacts
+pub mod FillingFacts
+pub mod SiteFacts
+pub mod UseFacts
+pub mod HomeFacts
+mod OfferFacts
+mod ReturnFacts

@@ -1,0 +1,144 @@
+//! The ways back to storage.
+
+ghost use Rattle.std.specs.Prelude.{◌≡◌, ◌≢◌, ◌<◌, ◌≤◌, ℕ, IfOk, Some, length, map, vec_len};
+ghost use Rattle.std.specs.List.{All, AllPairs, Contains, slice_get};
+ghost use Rattle.zac_arch.specs.Architecture.{storage_count, trap_count};
+ghost use Rattle.zac_assign.specs.Assignment.{cost_at};
+ghost use Rattle.zac_world.specs.Nearest.{trap_distance};
+ghost use Rattle.zac_world.specs.Places.{empty_storage};
+ghost use Rattle.zac_place.specs.Offers.{price_of};
+ghost use Rattle.zac_place.specs.Placing.{IsPlacing, ProvesPlacing, IsLeastPlacing};
+ghost use Rattle.zac_place.specs.Returns.{AreNear, IsEntangling, return_cost};
+ghost use Rattle.zac_place.specs.Tables.{Tabulates};
+
+use crate::laws::prices_bound_every_placing;
+use crate::offer::offered_traps;
+use crate::offsets::distance;
+use crate::placed::{Placed, place};
+use std::alloc::Global;
+use zac_arch::{Card, TrapId};
+use zac_assign::Costs;
+use zac_gates::List;
+use zac_memory::Memory;
+use zac_world::World;
+
+/// Sets the costs of a leaving atom that rests in this trap.
+fn set_row(costs: &mut Costs, card: &Card, offered: &[u32], row: u32, from: TrapId)
+    requires traps { All (λ t. t < storage_count card.now) offered.now }
+    requires few { length offered.now ≤ storage_count card.now }
+    requires from_in { from.0 < trap_count card.now }
+    requires row_in { row < costs.old.rows }
+    requires columns_are { costs.old.columns ≡ length offered.now }
+    ensures rows { costs.new.rows ≡ costs.old.rows }
+    ensures columns { costs.new.columns ≡ costs.old.columns }
+    ensures row { (k t : ℕ) → slice_get offered.now k ≡ Some t →
+        cost_at costs.new row k ≡ trap_distance card.now from.0 t }
+    ensures others { (r k : ℕ) → r ≢ row → k < length offered.now → cost_at costs.new r k ≡ cost_at costs.old r k }
+{
+    let _rules = card.figures();
+    for (column, trap) in offered.iter().enumerate() {
+        costs.set(row, column as u32, distance(card, from, TrapId(*trap)));
+    }
+}
+
+/// What each leaving atom pays at each offered trap.
+fn return_costs(
+    alloc: Global,
+    card: &Card,
+    world: &World<'_>,
+    leaving: &[u32],
+    offered: &[u32],
+) -> Result<Costs, Memory>
+    requires card { world.now.architecture ≡ card.now }
+    requires leaving { All (IsEntangling world.now) leaving.now }
+    requires few { length leaving.now ≤ storage_count card.now }
+    requires traps { All (λ t. t < storage_count card.now) offered.now }
+    requires some { length offered.now ≤ storage_count card.now }
+    ensures { IfOk result (λ costs.
+        Tabulates (return_cost world.now leaving.now) offered.now (length leaving.now) costs) }
+{
+    let _rules = card.figures();
+    let mut costs = Costs::new(alloc, leaving.len() as u32, offered.len() as u32)?;
+    for (row, q) in leaving.iter().enumerate() {
+        set_row(&mut costs, card, offered, row as u32, world.trap_of(*q));
+    }
+    Ok(costs)
+}
+
+/// The prices of all empty storage traps, by rising number: those of the offered ones, and 0 of the others.
+fn spread(
+    alloc: Global,
+    card: &Card,
+    world: &World<'_>,
+    offered: &[u32],
+    prices: &[i64],
+) -> Result<Vec<i64>, Memory>
+    requires card { world.now.architecture ≡ card.now }
+    requires rising { AllPairs (λ s t. s < t) offered.now }
+    requires empty { All (Contains (empty_storage world.now)) offered.now }
+    requires priced { length prices.now ≡ length offered.now }
+    ensures { IfOk result (λ spread. spread.items
+        ≡ map (price_of offered.now prices.now) (empty_storage world.now)) }
+{
+    let _rules = card.figures();
+    let mut spread = Vec::new(alloc);
+    let mut next = 0;
+    for t in 0..card.storage_traps() {
+        if world.atom_at(TrapId(t)).is_none() {
+            if next < offered.len() && offered[next] == t {
+                spread.push(prices[next])?;
+                next += 1;
+            } else {
+                spread.push(0)?;
+            }
+        }
+    }
+    Ok(spread)
+}
+
+/// An empty storage trap for each of the leaving qubits, by trap number in the order of the argument, so that the
+/// distances are least in all. The card is the world's; the qubits rest in entangling traps, and are no more than the empty
+/// storage traps. Prices stand over all empty storage traps, by rising number. The only error is that memory ran out.
+///
+/// Each target is one of the nearest empty storage traps of some leaving qubit, of which one more than leaving qubits are
+/// weighed. That is enough: of a qubit's nearest traps one at least is free in the end, its price is 0, and each trap that
+/// isn't weighed is no nearer to the qubit than that one.
+pub fn returns(
+    alloc: Global,
+    card: &Card,
+    world: &World<'_>,
+    leaving: &[u32],
+) -> Result<Placed, Memory>
+    requires card { world.now.architecture ≡ card.now }
+    requires leaving { All (IsEntangling world.now) leaving.now }
+    requires few { length leaving.now ≤ length (empty_storage world.now) }
+    ensures placing { IfOk result (λ placed.
+        IsPlacing (empty_storage world.now) (length leaving.now) placed.targets) }
+    ensures prices { IfOk result (λ placed. ProvesPlacing (return_cost world.now leaving.now)
+        (empty_storage world.now) (length leaving.now) placed.targets placed.row_price placed.column_price) }
+    ensures least { IfOk result (λ placed. IsLeastPlacing (return_cost world.now leaving.now)
+        (empty_storage world.now) (length leaving.now) placed.targets) }
+    ensures near { IfOk result (λ placed. AreNear world.now leaving.now placed.targets) }
+{
+    prices_bound_every_placing();
+    let _rules = card.figures();
+    let offered = offered_traps(alloc, card, world, leaving)?;
+    let costs = return_costs(alloc, card, world, leaving, offered.as_slice())?;
+    let Placed {
+        targets,
+        row_price,
+        column_price,
+    } = place(alloc, offered.as_slice(), &costs)?;
+    let spread = spread(
+        alloc,
+        card,
+        world,
+        offered.as_slice(),
+        column_price.as_slice(),
+    )?;
+    Ok(Placed {
+        targets,
+        row_price,
+        column_price: List::of(spread),
+    })
+}
