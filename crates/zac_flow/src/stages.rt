@@ -4,6 +4,7 @@ ghost use Rattle.std.specs.Prelude.{◌≡◌, ◌<◌, ◌≤◌, ◌⊎◌, Er
 ghost use Rattle.zac_arch.specs.Architecture.{storage_count};
 ghost use Rattle.zac_archfile.specs.declared.fault.CardFault.{CardFault};
 ghost use Rattle.zac_io.specs.Outside.{Appends, AppendsPrefix};
+ghost use Rattle.zac_plan.specs.Plan.{IsPlanned};
 ghost use Rattle.zair_state.specs.Performs.{Performs};
 ghost use Rattle.zair_text.specs.Lines.{program_text, program_lines};
 ghost use Rattle.zair_text.specs.Ranges.{AreWritable};
@@ -73,6 +74,7 @@ fn circuit_from(alloc: Global, card: &Card, inputs: &Inputs) -> Result<Circuit, 
 fn plan_from(alloc: Global, card: &Card, circuit: &Circuit) -> Result<Program, Fault>
     requires { length circuit.now.ops ≤ 786432 }
     ensures ok { IfOk result (Performs card.now circuit.now) }
+    ensures planned { IfOk result (IsPlanned card.now circuit.now) }
     ensures fits { OnOk result (circuit.now.qubits ≤ storage_count card.now) }
     ensures fault { IfErr result (λ f. (f ≡ Fault.Memory) ⊎ ((f ≡ Fault.Qubits circuit.now.qubits (storage_count card.now))
         × (storage_count card.now < circuit.now.qubits))) }

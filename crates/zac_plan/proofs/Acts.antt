@@ -1,12 +1,10 @@
 -- The acts of a plan: their steps are legal one after another, each may stand in a program, and each move goes somewhere.
-use Rattle.std.proofs.Common.{◌≡◌, ℕ, ◌<◌, ◌≤◌, Bool, not, ◌&&◌, List, [], ◌∷◌, ◌++◌, Option, Some, None, IsTrue, length, get_or, set, refl, sym, ◌∙◌, subst, arith, map, slice_get}
+use Rattle.std.proofs.Common.{◌≡◌, ℕ, ◌<◌, ◌≤◌, Bool, not, ◌&&◌, List, [], ◌∷◌, ◌++◌, Option, Some, None, IsTrue, length, get_or, refl, sym, subst, map, slice_get}
 use Rattle.std.specs.List.{AllByRecursion, cons_option, flat_map, filter_map, list_all, range_with_len}
 use Rattle.std.specs.Option.{option_and_then}
 use Rattle.std.proofs.lemmas.Bool.{and_from, and_parts}
 use Rattle.std.proofs.lemmas.Grind.{flat_map-append}
-use Rattle.std.proofs.lemmas.List.{length-set}
 use Rattle.std.proofs.lemmas.List.Elements.{All-from_recursion, recursion_from_All}
-use Rattle.std.proofs.lemmas.List.FromFn.{length-map-range_with_len}
 use Rattle.std.proofs.lemmas.Option.{slice_get-get_or}
 use Rattle.zac_aod.specs.Lowering.{job_steps}
 use Rattle.zac_arch.specs.Architecture.{Architecture, storage_count}
@@ -31,14 +29,16 @@ use Rattle.zair_state.specs.State.{State, opening}
 use Rattle.zac_group.specs.Groups.{IsGroup, MoveGroup}
 use Rattle.zac_group.specs.declared.shift.Shift.{Shift}
 use Rattle.zac_plan.specs.Growth.{AreSoundJobs}
-use Rattle.zac_plan.specs.Plan.{home, homes_for, arrivals, returns, job_of, gate_of, read_of, gates_at, pairs_at, reads_in, gates_act, reads_act}
+use Rattle.zac_plan.specs.Plan.{IsRearrangement, Rearrangement, after_arrivals, after_returns, after_shifts, arrivals, returns, job_of, gate_of, read_of, gates_at, pairs_at, reads_in, gates_act, reads_act}
+use Rattle.zac_plan.specs.Seats.{AreCleared, AreSeated, CanMake, IsPulse}
+use Rattle.zac_plan.proofs.Arriving.{can_arrive, seated}
 use Rattle.zac_plan.proofs.Grouping.{all_moves, groups_permute}
 use Rattle.zac_plan.proofs.Jobs.{job_own, jobs_lead, sound_behind}
-use Rattle.zac_plan.proofs.Lists.{all-append, contained_in_none, pairs_none}
-use Rattle.zac_plan.proofs.Phases.{CanMake, after_permuted, after_shifts, leads-append, leads_nowhere, make_permuted}
-use Rattle.zac_plan.proofs.Placing.{placed, can_all_arrive, can_all_return, pulse_leads}
+use Rattle.zac_plan.proofs.Leaving.{can_return, cleared}
+use Rattle.zac_plan.proofs.Lists.{all-append}
+use Rattle.zac_plan.proofs.Phases.{after_permuted, leads-append, leads_nowhere, make_permuted}
+use Rattle.zac_plan.proofs.Pulse.{pulse_rests}
 use Rattle.zac_plan.proofs.Rests.{LeadsTo, rests_in}
-use Rattle.zac_plan.proofs.Seats.{AreApart, IsPulse}
 
 -- an instruction that may follow the first
 abbrev pub may_come : Act → Bool
@@ -78,8 +78,9 @@ IsReadBelow n r = r.q < n
 -- each qubit rests somewhere
 each_rests : (a : Architecture) (t : List TrapId) (q : ℕ) → q < length t → Rests (opening a t) q
 each_rests a t q within =
-    let at : TrapId = get_or t q (home 0) in
-    (at, rests_in a t q at (slice_get-get_or t q (home 0) within))
+    let none : TrapId = record { 0 = 0 } in
+    let at : TrapId = get_or t q none in
+    (at, rests_in a t q at (slice_get-get_or t q none within))
 
 gates_lead : (a : Architecture) (t : List TrapId) (ones : List OneGate) → AllByRecursion (IsGateBelow (length t)) ones → LeadsTo a t (map (λ gate. One gate) ones) t
 gates_lead a t [] h = leads_nowhere a t
@@ -152,36 +153,28 @@ module _ (n bits : ℕ) where
     reads_below [] = tt
     reads_below (k ∷ ks) = read_below k (slice_get ops k) (filter_map (λ m. option_and_then (read_of m) (slice_get ops m)) ks) (valid k) (reads_below ks)
 
-length-after_shifts : (t : List TrapId) (shifts : List Shift) → length (after_shifts t shifts) ≡ length t
-length-after_shifts t [] = refl
-length-after_shifts t (s ∷ ss) = length-after_shifts (set t s.q s.to) ss ∙ length-set t s.q s.to
-
-pub length-placed : (a : Architecture) (n : ℕ) (pairs : List PairOf) → length (placed a n pairs) ≡ n
-length-placed a n pairs = length-after_shifts (homes_for n) (arrivals a pairs) ∙ length-map-range_with_len home 0 n
-
--- no pair is at the sites at first
-pub none_placed : (a : Architecture) (n : ℕ) → IsPulse a n []
-none_placed a n = record { few = omega arith; each = λ p listed. absurd (contained_in_none p listed); apart = pairs_none AreApart }
-
 -- The parts of a plan.
-module _ (a : Architecture) (rules : KeepsRules a) (n : ℕ) (fit : n ≤ storage_count a) (bits : ℕ) (ops : List Op)
+module _ (a : Architecture) (rules : KeepsRules a) (n : ℕ) (bits : ℕ) (ops : List Op)
     (valid : (k : ℕ) (what : Op) → slice_get ops k ≡ Some what → IsInRange n bits what)
     (keeps : (s : State) (steps : List Step) → IsSound a s → IsLegalRun a s steps → IsSound a (after_all s steps)) where
-  pub slot_part : (pairs : List PairOf) (slot : List ℕ) → IsPart a (placed a n pairs) (gates_act (gates_at ops slot)) (placed a n pairs)
-  slot_part pairs slot =
-      gates_part a (placed a n pairs) (gates_at ops slot)
-      (subst (λ m. AllByRecursion (IsGateBelow m) (gates_at ops slot)) (sym (length-placed a n pairs)) (gates_below n bits ops valid slot))
+  pub slot_part : (rests : List TrapId) → length rests ≡ n → (slot : List ℕ) → IsPart a rests (gates_act (gates_at ops slot)) rests
+  slot_part rests long slot =
+      gates_part a rests (gates_at ops slot) (subst (λ m. AllByRecursion (IsGateBelow m) (gates_at ops slot)) (sym long) (gates_below n bits ops valid slot))
 
-  pub readout_part : (pairs : List PairOf) → IsPart a (placed a n pairs) (reads_act (reads_in ops)) (placed a n pairs)
-  readout_part pairs =
-      reads_part a (placed a n pairs) (reads_in ops)
-      (subst (λ m. AllByRecursion (IsReadBelow m) (reads_in ops)) (sym (length-placed a n pairs)) (reads_below n bits ops valid (range_with_len 0 (length ops))))
+  pub readout_part : (rests : List TrapId) → length rests ≡ n → IsPart a rests (reads_act (reads_in ops)) rests
+  readout_part rests long =
+      reads_part a rests (reads_in ops)
+      (subst (λ m. AllByRecursion (IsReadBelow m) (reads_in ops)) (sym long) (reads_below n bits ops valid (range_with_len 0 (length ops))))
 
   pub sound_after : (t u : List TrapId) (acts : List Act) → IsSound a (opening a t) → IsPart a t acts u → IsSound a (opening a u)
   sound_after t u acts sound part = sound_behind a rules keeps t u (flat_map (λ act. steps_of act) acts) sound part.leads
 
-  pulse_part : (pairs : List PairOf) → IsPulse a n pairs → IsPart a (placed a n pairs) (Rydberg pairs ∷ []) (placed a n pairs)
-  pulse_part pairs pulse = record { leads = pulse_leads a rules n fit pairs pulse; come = refl; go = ((tt, tt), tt) }
+  pulse_part : (rests : List TrapId) (pairs : List PairOf) → IsPulse a n pairs → AreSeated a n rests pairs → IsPart a rests (Rydberg pairs ∷ []) rests
+  pulse_part rests pairs pulse seats = record {
+    leads = record { legal = (pulse_rests a rules n rests pairs pulse seats, tt); leaves = refl };
+    come = refl;
+    go = ((tt, tt), tt);
+  }
 
   -- in each move of a job some beam goes somewhere
   module _ (goes : (shifts : List Shift) → IsGroup (record { card = a; shifts = shifts }) → MovesGoSomewhere (Job 0 (job_steps a shifts 0))) where
@@ -197,18 +190,33 @@ module _ (a : Architecture) (rules : KeepsRules a) (n : ℕ) (fit : n ≤ storag
           go = jobs_go a goes are.groups (recursion_from_All (λ (g : MoveGroup). g.card ≡ a) are.groups are.grouping.cards) (recursion_from_All IsGroup are.groups are.grouping.kept);
         })
 
-    -- what is done with a pulse leads from where the pairs of the pulse before it are at the sites to where its own are
-    pub round_part : (before : List PairOf) (slot pulse : List ℕ) (return_jobs arrival_jobs : List Act) → IsPulse a n before → IsPulse a n (pairs_at ops pulse) →
-        IsSound a (opening a (placed a n before)) → AreSoundJobs a (returns a before) return_jobs → AreSoundJobs a (arrivals a (pairs_at ops pulse)) arrival_jobs →
-        IsPart a (placed a n before) (gates_act (gates_at ops slot) ++ (return_jobs ++ (arrival_jobs ++ Rydberg (pairs_at ops pulse) ∷ []))) (placed a n (pairs_at ops pulse))
-    round_part before slot pulse return_jobs arrival_jobs here next sound returned arrived =
-        let pairs : List PairOf = pairs_at ops pulse in
-        let way = can_all_return a rules n fit before here in
-        let back_home : IsPart a (placed a n before) return_jobs (homes_for n) =
-        subst (IsPart a (placed a n before) return_jobs) way.1 (jobs_part (placed a n before) (returns a before) return_jobs sound way.0 returned) in
-        let sound_home = sound_after (placed a n before) (homes_for n) return_jobs sound back_home in
-        let to_the_sites : IsPart a (homes_for n) arrival_jobs (placed a n pairs) =
-        jobs_part (homes_for n) (arrivals a pairs) arrival_jobs sound_home (can_all_arrive a rules n fit pairs next) arrived in
-        let from_arrivals = part_append a (homes_for n) (placed a n pairs) (placed a n pairs) arrival_jobs (Rydberg pairs ∷ []) to_the_sites (pulse_part pairs next) in
-        let from_returns = part_append a (placed a n before) (homes_for n) (placed a n pairs) return_jobs (arrival_jobs ++ Rydberg pairs ∷ []) back_home from_arrivals in
-        part_append a (placed a n before) (placed a n before) (placed a n pairs) (gates_act (gates_at ops slot)) (return_jobs ++ (arrival_jobs ++ Rydberg pairs ∷ [])) (slot_part before slot) from_returns
+    -- A round: the qubits rest in the pulse before, and a right choice has been made.
+    module _ (fit : n ≤ storage_count a) (rests : List TrapId) (before slot pulse : List ℕ) (r : Rearrangement) (here : IsPulse a n (pairs_at ops before)) (next : IsPulse a n (pairs_at ops pulse))
+        (seats : AreSeated a n rests (pairs_at ops before)) (chosen : IsRearrangement a ops rests before pulse r) where
+      are_cleared : AreCleared a n (after_returns ops rests before r) (pairs_at ops pulse)
+      are_cleared = cleared a rules n fit ops rests before pulse r.kept chosen.keeping here next seats r.targets chosen.targets.placing
+
+      can_leave : CanMake rests (returns ops rests before r)
+      can_leave = (can_return a rules n fit ops rests before pulse r.kept chosen.keeping here next seats).make r.targets chosen.targets.placing
+
+      can_come : CanMake (after_returns ops rests before r) (arrivals a (after_returns ops rests before r) (pairs_at ops pulse) r.sites)
+      can_come = (can_arrive a rules n fit (after_returns ops rests before r) (pairs_at ops pulse) next are_cleared).make r.sites chosen.sites.placing
+
+      -- its pairs are at the sites then
+      pub seated_next : AreSeated a n (after_arrivals a ops rests before pulse r) (pairs_at ops pulse)
+      seated_next = seated a rules n fit (after_returns ops rests before r) (pairs_at ops pulse) next are_cleared r.sites chosen.sites.placing
+
+      -- it leads from where the qubits rest in the pulse before to where they rest in this one
+      pub round_part : (return_jobs arrival_jobs : List Act) → IsSound a (opening a rests) → AreSoundJobs a (returns ops rests before r) return_jobs →
+          AreSoundJobs a (arrivals a (after_returns ops rests before r) (pairs_at ops pulse) r.sites) arrival_jobs →
+          IsPart a rests (gates_act (gates_at ops slot) ++ (return_jobs ++ (arrival_jobs ++ Rydberg (pairs_at ops pulse) ∷ []))) (after_arrivals a ops rests before pulse r)
+      round_part return_jobs arrival_jobs sound returned arrived =
+          let there : List TrapId = after_arrivals a ops rests before pulse r in
+          let between : List TrapId = after_returns ops rests before r in
+          let out : IsPart a rests return_jobs between = jobs_part rests (returns ops rests before r) return_jobs sound can_leave returned in
+          let sound_between = sound_after rests between return_jobs sound out in
+          let to_the_sites : IsPart a between arrival_jobs there =
+          jobs_part between (arrivals a between (pairs_at ops pulse) r.sites) arrival_jobs sound_between can_come arrived in
+          let from_arrivals = part_append a between there there arrival_jobs (Rydberg (pairs_at ops pulse) ∷ []) to_the_sites (pulse_part there (pairs_at ops pulse) next seated_next) in
+          let from_returns = part_append a rests between there return_jobs (arrival_jobs ++ Rydberg (pairs_at ops pulse) ∷ []) out from_arrivals in
+          part_append a rests rests there (gates_act (gates_at ops slot)) (return_jobs ++ (arrival_jobs ++ Rydberg (pairs_at ops pulse) ∷ [])) (slot_part rests seats.well.long slot) from_returns

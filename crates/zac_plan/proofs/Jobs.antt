@@ -22,10 +22,11 @@ use Rattle.zair_state.specs.State.{Beams, State, IsAt, opening}
 use Rattle.zair_state.specs.declared.place.Place.{Place}
 use Rattle.zair_state.specs.declared.place.Place.TheVariants.{Trap}
 use Rattle.zac_plan.specs.Growth.{IsSoundGroup}
-use Rattle.zac_plan.specs.Plan.{job_of}
+use Rattle.zac_plan.specs.Plan.{after_shifts, job_of}
+use Rattle.zac_plan.specs.Seats.{CanMake}
 use Rattle.zac_plan.proofs.Grouping.{all_moves}
 use Rattle.zac_plan.proofs.Lists.{all-append, all_from_contains, contained_in_none}
-use Rattle.zac_plan.proofs.Phases.{CanMake, after_shifts, after_shifts-append, leads-append, leads_nowhere, make_first, make_rest}
+use Rattle.zac_plan.proofs.Phases.{after_shifts-append, leads-append, leads_nowhere, make_first, make_rest}
 use Rattle.zac_plan.proofs.Rests.{LeadsTo, no_beam, rests_in, rests_only_in}
 
 -- a leg's step is one of AOD 0, and performs no op

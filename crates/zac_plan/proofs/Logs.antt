@@ -6,6 +6,7 @@ use Rattle.std.proofs.lemmas.Grind.{flat_map-append}
 use Rattle.std.proofs.lemmas.List.Elements.{filter_map-append}
 use Rattle.zac_aod.specs.Lowering.{job_steps}
 use Rattle.zac_arch.specs.Architecture.{Architecture}
+use Rattle.zac_arch.specs.declared.place.TrapId.{TrapId}
 use Rattle.zac_gates.specs.Log.{Entry}
 use Rattle.zac_gates.specs.declared.circuit.Op.{Op}
 use Rattle.zac_gates.specs.declared.circuit.Op.TheVariants as op
@@ -21,7 +22,7 @@ use Rattle.zair_form.specs.Steps.{steps_of}
 use Rattle.zair_state.specs.Run.{entries, log_of}
 use Rattle.zac_group.specs.Groups.{MoveGroup}
 use Rattle.zac_group.specs.declared.shift.Shift.{Shift}
-use Rattle.zac_plan.specs.Plan.{AreJobs, AreRounds, IsRound, job_of, gate_of, pair_of, read_of, gates_at, pairs_at, reads_in, gates_act, reads_act}
+use Rattle.zac_plan.specs.Plan.{AreJobs, AreRounds, IsRound, Rearrangement, after_arrivals, job_of, gate_of, pair_of, read_of, gates_at, pairs_at, reads_in, gates_act, reads_act}
 use Rattle.zac_plan.proofs.Jobs.{job_log}
 
 -- the log of what instructions do, one after another
@@ -147,9 +148,9 @@ entries_at-append : (ops : List Op) (ms ns : List ℕ) → entries_at ops (ms ++
 entries_at-append ops ms ns = filter_map-append (λ n. option_map (entry n) (slice_get ops n)) ms ns
 
 -- the log of a round
-round_log : (a : Architecture) (ops : List Op) (before : List PairOf) (slot pulse : List ℕ) (acts : List Act) → IsRound a ops before slot pulse acts →
-    AreOnes ops slot → ArePairs ops pulse → acts_log acts ≡ entries_at ops (slot ++ pulse)
-round_log a ops before slot pulse acts h ones pairs =
+round_log : (a : Architecture) (ops : List Op) (rests : List TrapId) (before slot pulse : List ℕ) (r : Rearrangement) (acts : List Act) →
+    IsRound a ops rests before slot pulse r acts → AreOnes ops slot → ArePairs ops pulse → acts_log acts ≡ entries_at ops (slot ++ pulse)
+round_log a ops rests before slot pulse r acts h ones pairs =
     let these : List PairOf = pairs_at ops pulse in
     let from_arrivals : acts_log (h.arrival_jobs ++ Rydberg these ∷ []) ≡ entries_at ops pulse =
     acts_log-append h.arrival_jobs (Rydberg these ∷ [])
@@ -167,20 +168,22 @@ round_log a ops before slot pulse acts h ones pairs =
     ∙ sym (entries_at-append ops slot pulse)
 
 -- the log of the rounds of a plan
-pub rounds_log : (a : Architecture) (ops : List Op) (before : List PairOf) (slots pulses : List (List ℕ)) (acts : List Act) → AreRounds a ops before slots pulses acts →
+pub rounds_log : (a : Architecture) (ops : List Op) (rests : List TrapId) (before : List ℕ) (slots pulses : List (List ℕ)) (acts : List Act) →
+    AreRounds a ops rests before slots pulses acts →
     AllByRecursion (AreOnes ops) slots → AllByRecursion (ArePairs ops) pulses → acts_log acts ≡ entries_at ops (in_turn slots pulses)
-rounds_log a ops before [] pulses acts h ones pairs = ap acts_log h
-rounds_log a ops before (slot ∷ slots) [] acts h ones pairs =
+rounds_log a ops rests before [] pulses acts h ones pairs = ap acts_log h
+rounds_log a ops rests before (slot ∷ slots) [] acts h ones pairs =
     ap acts_log h.1
     ∙ acts_log-append (gates_act (gates_at ops slot)) h.0
     ∙ ap (λ (l : List Entry). l ++ acts_log h.0) (gates_act_log (gates_at ops slot) ∙ slot_log ops slot ones.0)
-    ∙ ap (λ (l : List Entry). entries_at ops slot ++ l) (rounds_log a ops before slots [] h.0 h.2 ones.1 tt)
+    ∙ ap (λ (l : List Entry). entries_at ops slot ++ l) (rounds_log a ops rests before slots [] h.0 h.2 ones.1 tt)
     ∙ sym (entries_at-append ops slot (in_turn slots []))
-rounds_log a ops before (slot ∷ slots) (pulse ∷ pulses) acts h ones pairs =
-    ap acts_log h.2
-    ∙ acts_log-append h.0 h.1
-    ∙ ap (λ (l : List Entry). l ++ acts_log h.1) (round_log a ops before slot pulse h.0 h.3 ones.0 pairs.0)
-    ∙ ap (λ (l : List Entry). entries_at ops (slot ++ pulse) ++ l) (rounds_log a ops (pairs_at ops pulse) slots pulses h.1 h.4 ones.1 pairs.1)
+rounds_log a ops rests before (slot ∷ slots) (pulse ∷ pulses) acts h ones pairs =
+    ap acts_log h.3
+    ∙ acts_log-append h.1 h.2
+    ∙ ap (λ (l : List Entry). l ++ acts_log h.2) (round_log a ops rests before slot pulse h.0 h.1 h.4 ones.0 pairs.0)
+    ∙ ap (λ (l : List Entry). entries_at ops (slot ++ pulse) ++ l)
+    (rounds_log a ops (after_arrivals a ops rests before pulse h.0) pulse slots pulses h.2 h.5 ones.1 pairs.1)
     ∙ sym (entries_at-append ops (slot ++ pulse) (in_turn slots pulses))
     ∙ ap (entries_at ops) (append_assoc slot pulse (in_turn slots pulses))
 
@@ -189,10 +192,10 @@ abbrev pub performed : List Op → List (List ℕ) → List (List ℕ) → List 
 performed ops slots pulses = in_turn slots pulses ++ reads_among ops (range_with_len 0 (length ops))
 
 -- the log of the whole plan
-pub plan_log : (a : Architecture) (ops : List Op) (slots pulses : List (List ℕ)) (rounds : List Act) → AreRounds a ops [] slots pulses rounds →
+pub plan_log : (a : Architecture) (ops : List Op) (homes : List TrapId) (slots pulses : List (List ℕ)) (rounds : List Act) → AreRounds a ops homes [] slots pulses rounds →
     AllByRecursion (AreOnes ops) slots → AllByRecursion (ArePairs ops) pulses → acts_log (rounds ++ reads_act (reads_in ops)) ≡ entries_at ops (performed ops slots pulses)
-plan_log a ops slots pulses rounds are ones pairs =
+plan_log a ops homes slots pulses rounds are ones pairs =
     acts_log-append rounds (reads_act (reads_in ops))
-    ∙ ap (λ (l : List Entry). l ++ acts_log (reads_act (reads_in ops))) (rounds_log a ops [] slots pulses rounds are ones pairs)
+    ∙ ap (λ (l : List Entry). l ++ acts_log (reads_act (reads_in ops))) (rounds_log a ops homes [] slots pulses rounds are ones pairs)
     ∙ ap (λ (l : List Entry). entries_at ops (in_turn slots pulses) ++ l) (reads_act_log (reads_in ops) ∙ readout_log ops (range_with_len 0 (length ops)))
     ∙ sym (entries_at-append ops (in_turn slots pulses) (reads_among ops (range_with_len 0 (length ops))))

@@ -1,9 +1,9 @@
 -- Where atoms rest after shifts, and which shifts can be made together.
-use Rattle.std.proofs.Common.{◌≡◌, ◌≢◌, ℕ, ◌⊎◌, inl, inr, List, [], ◌∷◌, ◌++◌, Some, get_or, set, map, refl, sym, ap, ◌∙◌, subst, arith, slice_get}
+use Rattle.std.proofs.Common.{◌≡◌, ◌≢◌, ℕ, ◌⊎◌, inl, inr, List, [], ◌∷◌, ◌++◌, Some, set, refl, sym, ap, ◌∙◌, subst, slice_get}
 use Rattle.std.specs.List.{AllPairs, Contains}
 use Rattle.std.specs.List.Sorted.{IsPermutation}
 use Rattle.std.proofs.lemmas.Bool.{cases_eq}
-use Rattle.std.proofs.lemmas.List.Elements.{Contains-append_left, Contains-get_or}
+use Rattle.std.proofs.lemmas.List.Elements.{Contains-append_left}
 use Rattle.std.proofs.lemmas.List.Sorted.{Contains-permutation, IsPermutation-sym}
 use Rattle.zac_arch.specs.Architecture.{Architecture}
 use Rattle.zac_arch.specs.declared.place.TrapId.{TrapId}
@@ -12,9 +12,10 @@ use Rattle.zair_state.specs.State.{State, opening}
 use Rattle.zair_state.specs.Result.{after}
 use Rattle.zair_state.specs.Run.{IsLegalRun, after_all}
 use Rattle.zac_group.specs.declared.shift.Shift.{Shift}
-use Rattle.zac_plan.specs.Plan.{back}
-use Rattle.zac_plan.proofs.Lists.{contained_in_none, contains_cases, contains_here, contains_later, contained_in_map, contains_map, pairs_cons, pairs_head, pairs_none, pairs_tail, pairs_map, same_places, slice_get-set_same, slice_get-set_other}
-use Rattle.zac_plan.proofs.Rests.{CanShift, LeadsTo}
+use Rattle.zac_plan.specs.Plan.{after_shifts}
+use Rattle.zac_plan.specs.Seats.{CanMake}
+use Rattle.zac_plan.proofs.Lists.{contained_in_none, contains_cases, contains_here, contains_later, pairs_cons, pairs_head, pairs_none, pairs_tail, same_places, slice_get-set_same, slice_get-set_other}
+use Rattle.zac_plan.proofs.Rests.{LeadsTo}
 use Rattle.zac_plan.proofs.Shuffled.{atoms_permute, targets_permute}
 
 pub legal-append : (a : Architecture) (s : State) (xs ys : List Step) → IsLegalRun a s xs → IsLegalRun a (after_all s xs) ys → IsLegalRun a s (xs ++ ys)
@@ -34,17 +35,6 @@ leads-append a t u v xs ys h k = record {
 
 pub leads_nowhere : (a : Architecture) (t : List TrapId) → LeadsTo a t [] t
 leads_nowhere a t = record { legal = tt; leaves = refl }
-
--- where atoms rest after shifts
-abbrev pub after_shifts : List TrapId → List Shift → List TrapId
-after_shifts traps [] = traps
-after_shifts traps (s ∷ ss) = after_shifts (set traps s.q s.to) ss
-
--- Shifts can be made from where atoms rest: each of them can, no atom is shifted twice, and no two go to one trap.
-pub record CanMake (traps : List TrapId) (shifts : List Shift) : Type 0 where
-  pub each : (s : Shift) → Contains shifts s → CanShift traps s
-  pub atoms : AllPairs (λ s t. s.q ≢ t.q) shifts
-  pub targets : AllPairs (λ s t. s.to ≢ t.to) shifts
 
 -- two equal options
 some_same : (t u : TrapId) → Some t ≡ Some u → t ≡ u
@@ -156,70 +146,3 @@ module _ (traps : List TrapId) (ss ts : List Shift) (permutes : IsPermutation ss
 
   pub after_permuted : after_shifts traps ss ≡ after_shifts traps ts
   after_permuted = same_places (after_shifts traps ss) (after_shifts traps ts) permuted_at
-
--- no two atoms rest in one trap
-abbrev pub RestApart : List TrapId → Type 0
-RestApart traps = (i j : ℕ) (t : TrapId) → slice_get traps i ≡ Some t → slice_get traps j ≡ Some t → i ≡ j
-
--- The way back.
-module _ (traps : List TrapId) (shifts : List Shift) (apart : RestApart traps) (can_make : CanMake traps shifts) where
-  -- a trap that a shift has left is empty
-  left_empty : (s : Shift) → Contains shifts s → (k : ℕ) → slice_get (after_shifts traps shifts) k ≢ Some s.from
-  left_empty s listed k e = elim (named_or_not shifts k) as (λ _. ⊥) [
-    | inl found ↦
-        let t = found.0 in
-        let can = can_make.each t found.1 in
-        let there = after_shifts-there traps shifts t t.from can_make.atoms found.1 can.rests in
-        let target : t.to ≡ s.from = some_same t.to s.from (sym there ∙ ap (slice_get (after_shifts traps shifts)) found.2 ∙ e) in
-        can.empty s.q ((can_make.each s listed).rests ∙ ap (λ (x : TrapId). Some x) (sym target))
-    | inr none ↦
-        let here : slice_get traps k ≡ Some s.from = sym (after_shifts-other traps shifts k none) ∙ e in
-        none s listed (sym (apart k s.q s.from here (can_make.each s listed).rests))
-  ]
-
-  can_return : (s : Shift) → Contains shifts s → CanShift (after_shifts traps shifts) (back s)
-  can_return s listed =
-      let can = can_make.each s listed in
-      record {
-        rests = after_shifts-there traps shifts s s.from can_make.atoms listed can.rests;
-        empty = left_empty s listed;
-      }
-
-  sources_apart : AllPairs (λ (s t : Shift). s.from ≢ t.from) shifts
-  sources_apart i j d before within e =
-      let s = get_or shifts i d in
-      let t = get_or shifts j d in
-      let s_in : Contains shifts s = Contains-get_or shifts i d (omega arith) in
-      let t_in : Contains shifts t = Contains-get_or shifts j d within in
-      let s_rests = (can_make.each s s_in).rests in
-      let t_rests = (can_make.each t t_in).rests in
-      can_make.atoms i j d before within (apart s.q t.q s.from s_rests (t_rests ∙ ap (λ (x : TrapId). Some x) (sym e)))
-
-  pub make_back : CanMake (after_shifts traps shifts) (map back shifts)
-  make_back = record {
-    each = λ u listed.
-        let behind = contained_in_map back shifts u listed in
-        subst (CanShift (after_shifts traps shifts)) behind.2 (can_return behind.0 behind.1);
-    atoms = pairs_map (λ (x y : Shift). x.q ≢ y.q) back shifts can_make.atoms;
-    targets = pairs_map (λ (x y : Shift). x.to ≢ y.to) back shifts sources_apart;
-  }
-
-  back_at : (k : ℕ) → slice_get (after_shifts (after_shifts traps shifts) (map back shifts)) k ≡ slice_get traps k
-  back_at k = elim (named_or_not shifts k) [
-    | inl found ↦
-        let s = found.0 in
-        let can = can_make.each s found.1 in
-        let rests = after_shifts-there traps shifts s s.from can_make.atoms found.1 can.rests in
-        let there = after_shifts-there (after_shifts traps shifts) (map back shifts) (back s) s.to make_back.atoms (contains_map back shifts s found.1) rests in
-        subst (λ n. slice_get (after_shifts (after_shifts traps shifts) (map back shifts)) n ≡ slice_get traps n) found.2 (there ∙ sym can.rests)
-    | inr none ↦
-        after_shifts-other (after_shifts traps shifts) (map back shifts) k
-        (λ u listed e.
-        let behind = contained_in_map back shifts u listed in
-        none behind.0 behind.1 (ap (λ (x : Shift). x.q) behind.2 ∙ e))
-        ∙ after_shifts-other traps shifts k none
-  ]
-
-  -- it leads to where the atoms rested before
-  pub all_back : after_shifts (after_shifts traps shifts) (map back shifts) ≡ traps
-  all_back = same_places (after_shifts (after_shifts traps shifts) (map back shifts)) traps back_at

@@ -1,5 +1,5 @@
 -- States at rest: each atom in a trap, and no AOD with a beam.
-use Rattle.std.proofs.Common.{◌≡◌, ◌≢◌, ℕ, zero, suc, ◌<◌, List, Option, Some, None, refl, sym, ap, ◌∙◌, slice_get}
+use Rattle.std.proofs.Common.{◌≡◌, ℕ, zero, suc, ◌<◌, List, Option, Some, None, refl, sym, ap, ◌∙◌, slice_get}
 use Rattle.std.specs.List.{slice_index_or}
 use Rattle.std.specs.Option.{option_map}
 use Rattle.std.proofs.lemmas.Option.{slice_get-get_or, slice_get-map}
@@ -7,7 +7,6 @@ use Rattle.std.specs.Prelude.{replicate}
 use Rattle.zac_arch.specs.Architecture.{Architecture, trap_points, trap_count, StandsAt}
 use Rattle.zac_arch.specs.declared.place.TrapId.{TrapId}
 use Rattle.zac_group.specs.Moves.{point_at}
-use Rattle.zac_group.specs.declared.shift.Shift.{Shift}
 use Rattle.zair_form.specs.declared.step.Step.{Step}
 use Rattle.zair_state.specs.declared.place.Place.TheVariants.{Trap}
 use Rattle.zair_state.specs.State.{beams_of, idle, opening, IsAt}
@@ -41,8 +40,3 @@ no_beam a traps aod = idle_at a.figures.aods aod
 pub record LeadsTo (a : Architecture) (traps : List TrapId) (steps : List Step) (traps' : List TrapId) : Type 0 where
   pub legal : IsLegalRun a (opening a traps) steps
   pub leaves : after_all (opening a traps) steps ≡ opening a traps'
-
--- the shift's atom rests in its trap, and its target is empty
-pub record CanShift (traps : List TrapId) (s : Shift) : Type 0 where
-  pub rests : slice_get traps s.q ≡ Some s.from
-  pub empty : (k : ℕ) → slice_get traps k ≢ Some s.to

@@ -13,7 +13,7 @@ use Rattle.zair_form.specs.declared.step.PairOf.{PairOf}
 use Rattle.zac_plan.specs.Growth.{IsStagingOf}
 use Rattle.zac_plan.specs.Plan.{pair_of, pairs_at}
 use Rattle.zac_plan.proofs.Lists.{contained_in_none, contains_cases, contains_here, contains_later, pairs_cons, pairs_head, pairs_none, pairs_tail}
-use Rattle.zac_plan.proofs.Seats.{AreApart, IsPulse}
+use Rattle.zac_plan.specs.Seats.{AreApart, IsPulse}
 use Rattle.zac_plan.proofs.Turns.{pulse, in_pulse, pulse_rises}
 
 -- a pair at these numbers is the op of one of them
@@ -127,3 +127,7 @@ pulses_fit a c s valid of =
     (pulses_fit_from a s s.circuit.qubits s.circuit.bits 0 (length s.pairs) of.follow its_own
     (subst (AllByRecursion (λ pulse. length pulse ≤ site_count a)) of.right.pairs_are few)) in
     subst P of.circuit fit
+
+-- no pair is at the sites at first
+pub none_placed : (a : Architecture) (n : ℕ) → IsPulse a n []
+none_placed a n = record { few = omega arith; each = λ p listed. absurd (contained_in_none p listed); apart = pairs_none AreApart }

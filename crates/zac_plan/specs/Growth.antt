@@ -1,9 +1,9 @@
 -- Inside: how a timeline grows while a circuit is planned.
-use Rattle.std.specs.Prelude.{◌≡◌, ℕ, ◌+◌, ◌<◌, ◌≤◌, List, [], ◌∷◌, ◌++◌, length, map}
-use Rattle.std.specs.List.{AllByRecursion}
+use Rattle.std.specs.Prelude.{◌≡◌, ℕ, zero, suc, ◌+◌, ◌≤◌, List, [], ◌∷◌, ◌++◌, length, map}
+use Rattle.std.specs.List.{AllByRecursion, slice_index_or}
 use Rattle.zac_aod.specs.Lowering.{job_steps}
 use Rattle.zac_aod.specs.Soundness.{IsSoundJob}
-use Rattle.zac_arch.specs.Architecture.{Architecture, trap_count, site_count}
+use Rattle.zac_arch.specs.Architecture.{Architecture, site_count}
 use Rattle.zac_arch.specs.declared.card.Figures.{Figures}
 use Rattle.zac_gates.specs.Ops.{NativeCircuit}
 use Rattle.zac_gates.specs.declared.circuit.Op.{Op}
@@ -17,7 +17,10 @@ use Rattle.zair_form.specs.declared.step.PairOf.{PairOf}
 use Rattle.zair_form.specs.declared.program.Act.{Act}
 use Rattle.zair_form.specs.declared.program.Act.TheVariants.{Rydberg}
 use Rattle.zair_form.specs.declared.program.Instr.{Instr}
-use Rattle.zac_plan.specs.Plan.{arrivals, gates_act, gates_at, job_of, pairs_at}
+use Rattle.zac_plan.specs.Plan.{AreGateSites, AreReturns, IsRearrangement, Rearrangement, after_arrivals, after_returns, after_shifts, arrivals, gates_act, gates_at, job_of, leaving, pairs_at, places, returns, shifts_to}
+use Rattle.zac_plan.specs.Seats.{rests_in}
+use Rattle.zac_reuse.specs.Keeping.{IsGreatest, IsKeeping}
+use Rattle.zac_world.specs.Places.{Places}
 use Rattle.zac_plan.specs.declared.timeline.Timeline.{Timeline}
 use Rattle.zair_state.specs.Chain.{IsChain, end_of}
 
@@ -48,23 +51,53 @@ pub record GrowsByJobs (a : Architecture) (old new : Timeline) (shifts : List Sh
   pub are : AreSoundJobs a shifts acts
   pub goes_on : GoesOn a.figures old new acts
 
--- A timeline has grown by what is done with a pulse, where these moves bring the atoms of the pulse before it home.
-pub record GrowsByRound (a : Architecture) (ops : List Op) (returning : List Shift) (slot pulse : List ℕ) (old new : Timeline) : Type 0 where
+-- A timeline has grown by the jobs that bring home what leaves the sites, and the world is as behind them.
+pub record GrowsByReturns (a : Architecture) (ops : List Op) (before : List PairOf) (kept : List (ℕ × ℕ)) (old new : Timeline) (from to : Places) : Type 0 where
+  pub targets : List ℕ
+  pub chosen : AreReturns a (rests_in from) (leaving ops before kept) targets
+  pub grows : GrowsByJobs a old new (shifts_to (rests_in from) (leaving ops before kept) targets)
+  pub moved : to ≡ places a (after_shifts (rests_in from) (shifts_to (rests_in from) (leaving ops before kept) targets))
+
+-- A timeline has grown by the jobs that bring the atoms of a pulse together, and the world is as behind them.
+pub record GrowsByArrivals (a : Architecture) (pairs : List PairOf) (old new : Timeline) (from to : Places) : Type 0 where
+  pub sites : List ℕ
+  pub chosen : AreGateSites a (rests_in from) pairs sites
+  pub grows : GrowsByJobs a old new (arrivals a (rests_in from) pairs sites)
+  pub moved : to ≡ places a (after_shifts (rests_in from) (arrivals a (rests_in from) pairs sites))
+
+-- A timeline has grown by the jobs that bring home what leaves the sites between two pulses, where a greatest set of
+-- gates is kept.
+pub record IsSentHome (a : Architecture) (ops : List Op) (before pulse : List ℕ) (old new : Timeline) (from to : Places) : Type 0 where
+  pub kept : List (ℕ × ℕ)
+  pub keeping : IsKeeping ops before pulse kept
+  pub greatest : IsGreatest ops before pulse kept
+  pub grows : GrowsByReturns a ops (pairs_at ops before) kept old new from to
+
+-- A timeline has grown by what is done with a pulse, and the world is as in the pulse.
+pub record GrowsByRound (a : Architecture) (ops : List Op) (before slot pulse : List ℕ) (old new : Timeline) (from to : Places) : Type 0 where
+  pub chosen : Rearrangement
+  pub right : IsRearrangement a ops (rests_in from) before pulse chosen
   pub return_jobs : List Act
   pub arrival_jobs : List Act
-  pub returned : AreSoundJobs a returning return_jobs
-  pub arrived : AreSoundJobs a (arrivals a (pairs_at ops pulse)) arrival_jobs
+  pub returned : AreSoundJobs a (returns ops (rests_in from) before chosen) return_jobs
+  pub arrived : AreSoundJobs a (arrivals a (after_returns ops (rests_in from) before chosen) (pairs_at ops pulse) chosen.sites) arrival_jobs
   pub goes_on : GoesOn a.figures old new
       (gates_act (gates_at ops slot) ++ (return_jobs ++ (arrival_jobs ++ Rydberg (pairs_at ops pulse) ∷ [])))
+  pub moved : to ≡ places a (after_arrivals a ops (rests_in from) before pulse chosen)
+
+-- The numbers of the ops of this slot or pulse; none where there is no such.
+abbrev pub numbers_at : List (List ℕ) → ℕ → List ℕ
+numbers_at lists t = slice_index_or lists t []
+
+-- Those of the pulse before this one; none before the first.
+abbrev pub pulse_before : List (List ℕ) → ℕ → List ℕ
+pulse_before pulses zero = []
+pulse_before pulses (suc t) = numbers_at pulses t
 
 -- How many moves groups have together.
 abbrev pub moves_in : List MoveGroup → ℕ
 moves_in [] = 0
 moves_in (g ∷ gs) = length g.shifts + moves_in gs
-
--- The homes of a pair's qubits exist.
-abbrev pub HasHomes : Architecture → PairOf → Type 0
-HasHomes a p = (p.a < trap_count a) × (p.b < trap_count a)
 
 -- What each instruction carries is in range.
 abbrev pub ActsFit : List Instr → Type 0

@@ -1,2 +1,3 @@
-pub mod Plan
 pub mod Growth
+pub mod Plan
+pub mod Seats

@@ -6,17 +6,19 @@ ghost use Rattle.zair_form.specs.Ranges.{ProgramFits};
 ghost use Rattle.zair_state.specs.Chain.{IsChain, IsSafeChain, end_of};
 ghost use Rattle.zair_state.specs.Performs.{Performs};
 ghost use Rattle.zac_plan.specs.Growth.{ActsFit, IsStagingOf};
-ghost use Rattle.zac_plan.specs.Plan.{homes_for, IsPlan, IsPlanned};
+ghost use Rattle.zac_plan.specs.Plan.{IsPlan, IsPlanned};
 
 use crate::slots::{gates_at, reads_in};
 use crate::timeline::Timeline;
 use std::alloc::Global;
 use thiserror::Error;
 use zac_aod::job_limits;
-use zac_arch::{Card, TrapId};
+use zac_arch::Card;
 use zac_gates::{Circuit, List, Memory};
+use zac_place::homes;
 use zac_stage::laws::{numbers_follow, pulses_are_filled};
 use zac_stage::{Stages, stage};
+use zac_world::World;
 use zair_form::{Instr, Program};
 use zair_state::{
     chains_end_last, legal_steps_keep_states_sound, openings_are_sound, safe_chains_perform,
@@ -43,17 +45,6 @@ impl From<Memory> for PlanFault {
     }
 }
 
-/// The homes of so many qubits: each rests in the trap of its own number.
-fn homes(alloc: Global, qubits: u32) -> Result<List<TrapId>, Memory>
-    ensures { IfOk result (λ homes. homes ≡ homes_for qubits) }
-{
-    let mut homes = Vec::with_capacity(alloc, qubits as usize)?;
-    for q in 0..qubits {
-        homes.push(TrapId(q))?;
-    }
-    Ok(List::of(homes))
-}
-
 /// The instructions of a circuit's plan, one after another.
 fn planned(
     alloc: Global,
@@ -75,14 +66,12 @@ fn planned(
     legal_steps_keep_states_sound(card);
     job_limits(card);
     let ops = circuit.ops();
-    let homes = homes(alloc, circuit.qubits())?;
+    let homes = homes(alloc, card, circuit)?;
+    let mut world = World::new(alloc, card, homes.as_slice())?;
     let mut timeline = Timeline::starting(alloc, homes)?;
-    let mut returning = List::of(Vec::new(alloc));
     let pulses = stages.pulses();
     for t in 0..pulses {
-        let slot = stages.gates(t);
-        let pulse = stages.pairs(t);
-        returning = timeline.add_round(alloc, card, ops, slot, pulse, returning)?;
+        timeline.add_round(alloc, card, &mut world, circuit, stages, t)?;
     }
     let ones = gates_at(alloc, ops, stages.gates(pulses))?;
     timeline.add_gates(card, ones)?;
@@ -113,15 +102,15 @@ fn program_of(card: &Card, circuit: &Circuit, instrs: Vec<Instr>) -> Program
 /// The program of a circuit on a card, for a circuit of at most 786,432 ops. Zones, pulses and jobs follow ZAC
 /// (Lin, Tan and Cong, HPCA 2025).
 ///
-/// Qubit q rests in trap q. The pairs of the circuit go into pulses of at most as many pairs as the card has sites,
-/// and its one-qubit gates into the slots between them, each as early as it can (`zac_stage`). Before a pulse come the
-/// gates of its slot, as one instruction; then the atoms of the pulse before it go home, and its own atoms come to the
-/// sites. The moves of each of these two phases are put into groups (`zac_group`), and each group is a job of AOD 0
-/// (`zac_aod`), in the order of the groups. Pair k of a pulse is at site k; of its two qubits the one whose home has the
-/// smaller x goes to the left trap, on equal x the one of smaller number. Behind the last pulse come the gates
-/// of the last slot, and then all reads as one instruction; no atom is moved there. Where there are no such gates or
-/// reads, the instruction is left out. The first instruction begins at moment 0, and each other one where the one
-/// before it ends.
+/// The qubits that are used first rest nearest to site 0 (`zac_place`). The pairs of the circuit go into pulses of at
+/// most as many pairs as the card has sites, and its one-qubit gates into the slots between them, each as early as it can
+/// (`zac_stage`). Before a pulse come the gates of its slot, as one instruction. As many gates of the pulse as can be are
+/// kept at the sites of gates of the pulse before it with which they share a qubit (`zac_reuse`); the other atoms at the
+/// sites leave for storage, and the other gates go to free sites, each with the least sum of distances. The moves of
+/// the returns, and those of the arrivals, are put into groups (`zac_group`), and each group is a job of AOD 0
+/// (`zac_aod`), in the order of the groups. Behind the last pulse come the gates of the last slot, and then all reads as
+/// one instruction; no atom is moved there. Where there are no such gates or reads, the instruction is left out. The
+/// first instruction begins at moment 0, and each other one where the one before it ends.
 ///
 /// In the order of the list, and in every order that these times allow, each step is legal, each pulse brings
 /// within range exactly the pairs that it lists, and each op but the fences is performed once, after all that it

@@ -1,51 +1,88 @@
 //! What is done around a pulse.
 
-ghost use Rattle.std.specs.Prelude.{◌≡◌, ◌+◌, ◌*◌, ◌^◌, ◌<◌, ◌≤◌, All, IfOk, OnOk, length};
-ghost use Rattle.zac_arch.specs.Architecture.{site_count};
-ghost use Rattle.zac_group.specs.Groups.{IsPhase};
-ghost use Rattle.zac_plan.specs.Growth.{GrowsByRound, HasHomes};
-ghost use Rattle.zac_plan.specs.Plan.{arrivals, pairs_at, returns};
+ghost use Rattle.std.specs.Prelude.{◌≡◌, ◌+◌, ◌*◌, ◌^◌, ◌<◌, ◌≤◌, OnOk, length};
+ghost use Rattle.zac_arch.specs.Architecture.{storage_count};
+ghost use Rattle.zac_plan.specs.Growth.{GrowsByRound, IsSentHome, IsStagingOf, pulse_before, numbers_at};
+ghost use Rattle.zac_plan.specs.Plan.{pairs_at};
+ghost use Rattle.zac_plan.specs.Seats.{AreSeated, rests_in};
 
-use crate::sites::{arrivals, ways_back};
 use crate::slots::{gates_at, pairs_at};
 use crate::timeline::Timeline;
 use std::alloc::Global;
 use zac_arch::Card;
-use zac_gates::{List, Memory, Op};
-use zac_group::Shift;
+use zac_gates::{Circuit, Memory};
+use zac_reuse::keep;
+use zac_stage::Stages;
+use zac_world::World;
 
 impl Timeline {
-    /// Adds a pulse with the slot before it: the gates of the slot, the jobs of the moves that bring the atoms at the
-    /// sites home, the jobs of the arrivals of the pulse's atoms, and the pulse. The answer is what brings these home.
+    /// Adds the jobs that bring home what leaves the sites of the pulse before this one.
+    fn send_home(
+        &mut self,
+        alloc: Global,
+        card: &Card,
+        world: &mut World<'_>,
+        circuit: &Circuit,
+        stages: &Stages<'_>,
+        t: u32,
+    ) -> Result<(), Memory>
+        requires stages { IsStagingOf card.now circuit.now stages.now }
+        requires fits { circuit.now.qubits ≤ storage_count card.now }
+        requires its_card { world.old.architecture ≡ card.now }
+        requires t_in { t < length stages.now.pairs }
+        requires seats { AreSeated card.now circuit.now.qubits (rests_in world.old)
+            (pairs_at circuit.now.ops (pulse_before stages.now.pairs t)) }
+        requires room { self.old.now + 8000000000 * length (pulse_before stages.now.pairs t) < 2 ^ 64 }
+        ensures ok { OnOk result (IsSentHome card.now circuit.now.ops (pulse_before stages.now.pairs t)
+            (numbers_at stages.now.pairs t) self.old self.new world.old world.new) }
+        ensures most { OnOk result (self.new.now ≤ self.old.now + 8000000000 * length (pulse_before stages.now.pairs t)) }
+    {
+        if t == 0 {
+            return Ok(());
+        }
+        // Its contract says that the card keeps all rules.
+        let _figures = card.figures();
+        let ops = circuit.ops();
+        let kept = keep(alloc, circuit, stages, t - 1)?;
+        let before = pairs_at(alloc, ops, stages.pairs(t - 1))?;
+        self.add_returns(alloc, card, world, ops, &before, kept.pairs.as_slice())
+    }
+
+    /// Adds a pulse with the slot before it: the gates of the slot, the jobs that bring home what leaves the sites of the
+    /// pulse before, the jobs that bring the pulse's atoms together, and the pulse.
     pub fn add_round(
         &mut self,
         alloc: Global,
         card: &Card,
-        ops: &[Op],
-        slot: &[u32],
-        pulse: &[u32],
-        returning: List<Shift>,
-    ) -> Result<List<Shift>, Memory>
-        requires slot_in { All (λ n. n < length ops.now) slot.now }
-        requires pulse_in { All (λ n. n < length ops.now) pulse.now }
-        requires few { length pulse.now ≤ site_count card.now }
-        requires homes { All (HasHomes card.now) (pairs_at ops.now pulse.now) }
-        requires leaving { IsPhase card.now returning }
-        requires coming { IsPhase card.now (arrivals card.now (pairs_at ops.now pulse.now)) }
-        requires room { self.old.now + 4000000000 * length returning + 1000000000 * length slot.now + 17000000000 * length pulse.now + 1000000000 < 2 ^ 64 }
-        ensures ok { OnOk result (GrowsByRound card.now ops.now returning slot.now pulse.now self.old self.new) }
-        ensures returns { IfOk result (λ ways. ways ≡ returns card.now (pairs_at ops.now pulse.now)) }
-        ensures most { IfOk result (λ ways. self.new.now + 4000000000 * length ways
-            ≤ self.old.now + 4000000000 * length returning + 1000000000 * length slot.now + 16000000000 * length pulse.now + 1000000000) }
+        world: &mut World<'_>,
+        circuit: &Circuit,
+        stages: &Stages<'_>,
+        t: u32,
+    ) -> Result<(), Memory>
+        requires stages { IsStagingOf card.now circuit.now stages.now }
+        requires fits { circuit.now.qubits ≤ storage_count card.now }
+        requires its_card { world.old.architecture ≡ card.now }
+        requires t_in { t < length stages.now.pairs }
+        requires seats { AreSeated card.now circuit.now.qubits (rests_in world.old)
+            (pairs_at circuit.now.ops (pulse_before stages.now.pairs t)) }
+        requires room { self.old.now + 8000000000 * length (pulse_before stages.now.pairs t)
+            + 1000000000 * length (numbers_at stages.now.gates t)
+            + 8000000000 * length (numbers_at stages.now.pairs t) + 1000000000 < 2 ^ 64 }
+        ensures ok { OnOk result (GrowsByRound card.now circuit.now.ops (pulse_before stages.now.pairs t)
+            (numbers_at stages.now.gates t) (numbers_at stages.now.pairs t) self.old self.new world.old world.new) }
+        ensures most { OnOk result (self.new.now ≤ self.old.now + 8000000000 * length (pulse_before stages.now.pairs t)
+            + 1000000000 * length (numbers_at stages.now.gates t)
+            + 8000000000 * length (numbers_at stages.now.pairs t) + 1000000000) }
     {
-        let ones = gates_at(alloc, ops, slot)?;
+        // Its contract says that the card keeps all rules.
+        let _figures = card.figures();
+        let ops = circuit.ops();
+        let ones = gates_at(alloc, ops, stages.gates(t))?;
         self.add_gates(card, ones)?;
-        self.add_jobs(alloc, card, returning)?;
-        let pairs = pairs_at(alloc, ops, pulse)?;
-        let arriving = arrivals(alloc, card, pairs.as_slice())?;
-        let ways = ways_back(alloc, arriving.as_slice())?;
-        self.add_jobs(alloc, card, List::of(arriving))?;
+        self.send_home(alloc, card, world, circuit, stages, t)?;
+        let pairs = pairs_at(alloc, ops, stages.pairs(t))?;
+        self.add_arrivals(alloc, card, world, &pairs)?;
         self.add_pulse(card, pairs)?;
-        Ok(List::of(ways))
+        Ok(())
     }
 }
