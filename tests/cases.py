@@ -1,15 +1,19 @@
 #!/usr/bin/env python3
 """What the cases of crates/cases have to answer, worked out anew from the rules in docs/ by tests/plan.py and front.py,
-which are another program in another language than the compiler.
+which are another program in another language than the compiler. Where the rules of a plan leave a choice, it is judged and taken over
+from the built program, if there is one.
 
     cases.py <crates/cases/stdin >crates/cases/stdout
 """
 import os
+import subprocess
 import sys
+import tempfile
 
 import plan
 
 DATA = os.path.join(os.path.dirname(os.path.abspath(__file__)), "../crates/cases/data")
+PROGRAM = os.path.join(os.path.dirname(os.path.abspath(__file__)), "../crates/zac_cli/out/zac_cli")
 ROOM = 16777216
 USAGE = (2, "usage: compile CARD QASM | make N K\n")
 LIMITS = {"card": 65536, "source": 4194304}
@@ -46,10 +50,23 @@ def calls_to_read(length, limit):
 KNOWN = {}
 
 
+def written(card, source):
+    """The lines that the built program writes; none where it isn't built or refuses."""
+    if not os.access(PROGRAM, os.X_OK):
+        return None
+    with tempfile.TemporaryDirectory() as folder:
+        names = [os.path.join(folder, name) for name in ("card.json", "source.qasm")]
+        for name, data in zip(names, (card, source)):
+            with open(name, "wb") as file:
+                file.write(data)
+        ended = subprocess.run([PROGRAM, "compile", *names], capture_output=True, stdin=subprocess.DEVNULL)
+    return ended.stdout.decode().splitlines(keepends=True) or None
+
+
 def compiled(card, source):
     """The status, the line, and the lines of the text."""
     if (card, source) not in KNOWN:
-        KNOWN[card, source] = plan.judged(card, source)
+        KNOWN[card, source] = plan.judged(card, source, written(card, source))
     return KNOWN[card, source]
 
 

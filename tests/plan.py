@@ -2,7 +2,10 @@
 """What `compile CARD FILE` answers, worked out anew from the rules in docs/, in another language and by another hand than the
 compiler: the text or the line of the refusal on standard output, and the status.
 
-    plan.py CARD FILE       the answer for a card, which is `@tiny`, `@standard` or a file, and a source
+    plan.py CARD FILE       an answer for a card, which is `@tiny`, `@standard` or a file, and a source
+    plan.py CARD FILE ZAIR  the same, where ZAIR is a text: which greatest set of gates is kept between two pulses, to which
+                            traps the other atoms go and to which sites the new gates is taken from that text, since the
+                            rules leave it open on a tie; where what it takes isn't greatest or least, the status is 99
     plan.py --make N SEED   a source of N statements, drawn by the seed, in which names, sizes and indices are right
     plan.py --break N SEED  a source of N statements, drawn by the seed, in which a few things may be wrong
     plan.py --pairs N K     the source that `make N K` writes
@@ -35,7 +38,9 @@ class Card:
             if kind == "storage":
                 self.storage = len(self.points)
         self.sites = (len(self.points) - self.storage) // 2
-        self.times = {}
+        self.times, self.rows = {}, {}
+        for trap, (x, y) in enumerate(self.points[: self.storage]):
+            self.rows.setdefault(y, []).append((x, trap))
 
     def move_time(self, dx, dy):
         """The least whole t with acceleration^2 * t^4 >= (dx^2 + dy^2) * 10^22."""
@@ -188,16 +193,187 @@ def stages(ops, sites):
     return pulses, [slots.get(t, []) for t in range(len(pulses) + 1)]
 
 
-def places(card, pulse):
-    """The trap of each qubit of a pulse: gate k is at site k, and the qubit whose home stands further left is at the left."""
-    found = {}
-    for site, (_, *pair) in enumerate(pulse):
-        for side, q in enumerate(sorted(pair, key=lambda q: (card.points[q][0], q))):
-            found[q] = card.storage + 2 * site + side
+class Wrong(Exception):
+    """A choice between two pulses that the rules don't allow."""
+
+
+def greatest(edges, count):
+    """How many pairs a greatest set has in which no end comes twice, and such a set, as the partner of each right end; the
+    edges give the left ends of each right end."""
+    partner = {}
+
+    def found(right, seen):
+        for left in edges[right]:
+            if left not in seen:
+                seen.add(left)
+                if left not in partner or found(partner[left], seen):
+                    partner[left] = right
+                    return True
+        return False
+
+    size = sum(found(right, set()) for right in range(count))
+    return size, {right: left for left, right in partner.items()}
+
+
+def least(costs):
+    """The columns of an assignment of the rows of a table at the least cost, by shortest augmenting paths."""
+    rows, columns = len(costs), len(costs[0]) if costs else 0
+    row_price, column_price, row_of = [0] * (rows + 1), [0] * (columns + 1), [0] * (columns + 1)
+    for row in range(1, rows + 1):
+        row_of[0], column = row, 0
+        best, before, seen = [math.inf] * (columns + 1), [0] * (columns + 1), [False] * (columns + 1)
+        while row_of[column]:
+            seen[column] = True
+            here, delta, next_column = row_of[column], math.inf, 0
+            line, price = costs[here - 1], row_price[here]
+            for k in range(1, columns + 1):
+                if not seen[k]:
+                    reduced = line[k - 1] - price - column_price[k]
+                    if reduced < best[k]:
+                        best[k], before[k] = reduced, column
+                    if best[k] < delta:
+                        delta, next_column = best[k], k
+            for k in range(columns + 1):
+                if seen[k]:
+                    row_price[row_of[k]] += delta
+                    column_price[k] -= delta
+                else:
+                    best[k] -= delta
+            column = next_column
+        while column:
+            row_of[column] = row_of[before[column]]
+            column = before[column]
+    answer = [0] * rows
+    for column in range(1, columns + 1):
+        if row_of[column]:
+            answer[row_of[column] - 1] = column - 1
+    return answer
+
+
+def homes(card, qubits, ops):
+    """The qubits by their first pair, those without one last, rest in the storage traps by nearness to site 0."""
+    first = {}
+    for number, op in enumerate(ops):
+        if op[0] == "two":
+            for q in op[1:]:
+                first.setdefault(q, number)
+    x0, y0 = card.points[card.storage]
+    traps = sorted(range(card.storage), key=lambda t: (abs(card.points[t][1] - y0), abs(card.points[t][0] - x0), t))
+    used = sorted(range(qubits), key=lambda q: (first.get(q, len(ops)), q))
+    return [trap for _, trap in sorted(zip(used, traps))]
+
+
+def taken_from(card, text):
+    """The moves between the pulses of a text: for each pulse, where each atom goes to in storage, and where to a site."""
+    found, home, site = [], {}, {}
+    for line in map(json.loads, text):
+        if line["type"] == "rydberg":
+            found.append((home, site))
+            home, site = {}, {}
+        for step in line.get("steps", []):
+            if step["step"] == "deactivate":
+                for q, trap in step["atoms"]:
+                    (home if trap < card.storage else site)[q] = trap
     return found
 
 
-def plan(card, qubits, ops):
+class Between:
+    """What is done between two pulses, where the atoms rest at these traps. What the rules leave open is as in the moves of a
+    text, where they are given."""
+
+    def __init__(self, card, at, before, pulse, moves):
+        self.card, self.at, self.moves = card, at, moves
+        self.before, self.pulse = [set(pair) for _, *pair in before], [pair for _, *pair in pulse]
+        self.returns = self.returning(self.staying())
+        self.arrivals = self.arriving()
+
+    def distance(self, trap, other):
+        return sum(abs(a - b) for a, b in zip(self.card.points[trap], self.card.points[other]))
+
+    def site(self, q):
+        return (self.at[q] - self.card.storage) // 2 if self.at[q] >= self.card.storage else None
+
+    def staying(self):
+        """The qubits that stay: those that two gates of a greatest set share."""
+        of = {q: k for k, pair in enumerate(self.before) for q in pair}
+        size, partners = greatest([sorted({of[q] for q in pair if q in of}) for pair in self.pulse], len(self.pulse))
+        if self.moves is not None:
+            stay, partners = set(of) - set(self.moves[0]), {}
+            for k, pair in enumerate(self.pulse):
+                old = {of[q] for q in pair if q in stay}
+                if len(old) > 1:
+                    raise Wrong("a gate is kept at two sites")
+                partners.update({k: min(old)} if old else {})
+            if len(set(partners.values())) < len(partners) or len(partners) != size:
+                raise Wrong(f"{len(partners)} gates are kept where {size} can be")
+        stay_all = {q for k, old in partners.items() for q in self.pulse[k] if q in self.before[old]}
+        if self.moves is not None and stay_all != stay:
+            raise Wrong("a qubit stays that needn't, or leaves that needn't")
+        return stay_all
+
+    def chosen(self, rows, offered, cost, taken, what):
+        """A place for each row among those that are offered, at the least cost; the taken ones, where they are that."""
+        costs = [[cost(row, place) for place in offered] for row in rows]
+        best = [offered[column] for column in least(costs)]
+        if taken is None:
+            return best
+        total = lambda places: sum(cost(row, place) for row, place in zip(rows, places))
+        if len(set(taken)) < len(taken) or not set(taken) <= set(offered) or total(taken) != total(best):
+            raise Wrong(f"{what} aren't placed at the least cost")
+        return taken
+
+    def nearest(self, place, empty, count):
+        """So many of these traps that are nearest to a place, or all of them: the rows are taken by their distance until no
+        trap of a farther one can be among them."""
+        found = []
+        for rise, row in sorted((abs(y - place[1]), row) for y, row in self.card.rows.items()):
+            if len(found) >= count and rise > sorted(found)[count - 1][0]:
+                break
+            here = sorted((rise + abs(x - place[0]), trap) for x, trap in row if trap in empty)
+            found += here[:count]
+        return [trap for _, trap in sorted(found)[:count]]
+
+    def returning(self, stay):
+        """The atoms at the sites that don't stay go to empty storage traps."""
+        leaving = sorted(q for pair in self.before for q in pair if q not in stay)
+        empty = set(range(self.card.storage)).difference(self.at)
+        cost = lambda q, trap: self.distance(self.at[q], trap)
+        # Of the nearest traps of an atom, one more than atoms, one is left, so none farther is needed.
+        offered = sorted({t for q in leaving for t in self.nearest(self.card.points[self.at[q]], empty, len(leaving) + 1)})
+        if self.moves is not None and set(self.moves[0]) != set(leaving):
+            raise Wrong("other atoms leave than those that don't stay")
+        taken = None if self.moves is None else [self.moves[0][q] for q in leaving]
+        if taken is not None and set(taken) <= empty:
+            offered = sorted(set(offered) | set(taken))
+        moves = []
+        for q, trap in zip(leaving, self.chosen(leaving, offered, cost, taken, "returns")):
+            moves.append((q, self.at[q], trap))
+            self.at[q] = trap
+        return moves
+
+    def arriving(self):
+        """Held gates are completed at their site, and the others go to free sites."""
+        moves, held = [], set()
+        fresh = [pair for pair in self.pulse if self.site(pair[0]) is None and self.site(pair[1]) is None]
+        for pair in self.pulse:
+            for q, other in (pair, pair[::-1]):
+                if self.site(q) is not None:
+                    held.add(self.site(q))
+                    if self.site(other) is None:
+                        moves.append((other, self.at[other], 2 * self.card.storage + 4 * self.site(q) + 1 - self.at[q]))
+        sides = [sorted(pair, key=lambda q: (self.card.points[self.at[q]][0], self.at[q])) for pair in fresh]
+        traps = lambda site: (self.card.storage + 2 * site, self.card.storage + 2 * site + 1)
+        cost = lambda pair, site: sum(self.distance(self.at[q], trap) for q, trap in zip(pair, traps(site)))
+        free = [site for site in range(self.card.sites) if site not in held]
+        taken = None if self.moves is None else [(self.moves[1].get(a, 0) - self.card.storage) // 2 for a, _ in sides]
+        for pair, site in zip(sides, self.chosen(sides, free, cost, taken, "new gates")):
+            moves += [(q, self.at[q], trap) for q, trap in zip(pair, traps(site))]
+        for q, _, trap in moves:
+            self.at[q] = trap
+        return moves
+
+
+def plan(card, qubits, ops, text=None):
     now = 0
     yield {"type": "zair", "version": 1}
 
@@ -207,19 +383,21 @@ def plan(card, qubits, ops):
         instruction["end"] = now
         return instruction
 
-    figures, at_site = card.figures, {}
+    figures, at = card.figures, homes(card, qubits, ops)
     pulses, slots = stages(ops, card.sites)
-    yield timed({"type": "init", "homes": list(range(qubits))}, 0)
+    taken = None if text is None else taken_from(card, text)
+    if taken is not None and len(taken) != len(pulses):
+        raise Wrong(f"{len(taken)} pulses for {len(pulses)}")
+    yield timed({"type": "init", "homes": list(at)}, 0)
     for t, gates in enumerate(slots):
         if gates:
             yield timed({"type": "1qGate", "gates": gates}, figures["one"] * len(gates))
         if t == len(pulses):
             break
-        for returning in jobs(card, [(q, place, q) for q, place in at_site.items()]):
-            yield timed(*returning)
-        at_site = places(card, pulses[t])
-        for arriving in jobs(card, [(q, q, place) for q, place in at_site.items()]):
-            yield timed(*arriving)
+        between = Between(card, at, pulses[t - 1] if t else [], pulses[t], taken and taken[t])
+        for moves in (between.returns, between.arrivals):
+            for moving in jobs(card, moves):
+                yield timed(*moving)
         yield timed({"type": "rydberg", "pairs": pulses[t]}, figures["pulse"])
     reads = [[number, op[1], op[2]] for number, op in enumerate(ops) if op[0] == "read"]
     if reads:
@@ -249,8 +427,9 @@ def tally(lines):
     }
 
 
-def judged(card, source):
-    """The status, the line on standard error, and the lines of the text, for the bytes of a card and of a source."""
+def judged(card, source, text=None):
+    """The status, the line on standard error, and the lines of the text, for the bytes of a card and of a source; what the
+    rules leave open is as in the lines of a text, where they are given."""
     refusal = cards.answer(card)
     if not refusal[0].isdigit():
         return 6, f"card refused: {refusal}\n", []
@@ -264,7 +443,10 @@ def judged(card, source):
         return 11, "limit: %s %d\n" % fault.args, []
     if scope.qubits > card.storage:
         return 7, f"too many qubits: {scope.qubits} for {card.storage} traps\n", []
-    lines = list(plan(card, scope.qubits, ops))
+    try:
+        lines = list(plan(card, scope.qubits, ops, text))
+    except Wrong as fault:
+        return 99, f"{fault}\n", []
     lines.append(tally(lines))
     return 0, "", [json.dumps(line, sort_keys=True, separators=(",", ":")) + "\n" for line in lines]
 
@@ -430,7 +612,7 @@ def main():
     if sys.argv[1] == "--pairs":
         sys.stdout.write(pairs_source(int(sys.argv[2]), int(sys.argv[3])))
         return 0
-    name, source = sys.argv[1:]
+    name, source, *text = sys.argv[1:]
     with open(source, "rb") as file:
         source = file.read()
     if name.startswith("@"):
@@ -438,7 +620,10 @@ def main():
     else:
         with open(name, "rb") as file:
             card = file.read()
-    status, line, text = judged(card, source)
+    if text:
+        with open(text[0], encoding="utf-8") as file:
+            text = file.readlines()
+    status, line, text = judged(card, source, text or None)
     sys.stdout.write(line or "".join(text))
     return status
 
