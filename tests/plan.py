@@ -39,6 +39,7 @@ class Card:
                 self.storage = len(self.points)
         self.sites = (len(self.points) - self.storage) // 2
         self.times, self.rows = {}, {}
+        self.trap_at = {point: trap for trap, point in enumerate(self.points)}
         for trap, (x, y) in enumerate(self.points[: self.storage]):
             self.rows.setdefault(y, []).append((x, trap))
 
@@ -106,8 +107,8 @@ def groups(card, moves):
 
 
 def job(card, group):
-    """The steps of a group: the rows are loaded one after another, all fly, and the rows are unloaded one after another; what
-    isn't at its place is parked beside it."""
+    """The steps of a group, how long they take, and what they use beside an AOD: the rows are loaded one after another, all fly,
+    and the rows are unloaded one after another; what isn't at its place is parked beside it."""
     park = card.figures["park"]
     rows = sorted({(m.source_at[1], m.target_at[1]) for m in group})
     columns = sorted({(m.source_at[0], m.target_at[0]) for m in group})
@@ -151,7 +152,8 @@ def job(card, group):
             del held[j]
         if i + 1 < len(rows):
             move(1, i + 1, i + 1)
-    return {"type": "rearrangeJob", "aod": 0, "steps": steps}, duration(card, steps)
+    grids = [card.trap_at[column[side], row[side]] for side in range(2) for row in rows for column in columns]
+    return {"type": "rearrangeJob", "steps": steps}, duration(card, steps), [("qubit", m.q) for m in group] + [("trap", t) for t in grids]
 
 
 def duration(card, steps):
@@ -373,35 +375,48 @@ class Between:
         return moves
 
 
-def plan(card, qubits, ops, text=None):
-    now = 0
-    yield {"type": "zair", "version": 1}
+class Schedule:
+    """When instructions begin and end: the last end of each thing that they use."""
 
-    def timed(instruction, duration):
-        nonlocal now
-        instruction["begin"], now = now, now + duration
-        instruction["end"] = now
+    def __init__(self, card):
+        self.card, self.ends = card, {}
+
+    def timed(self, instruction, duration, used):
+        """The instruction begins at the greatest end of an earlier one that uses something that it uses. A job is made by the
+        AOD whose last job ends first, of several by that of least number."""
+        if instruction["type"] == "rearrangeJob":
+            instruction["aod"] = min(range(self.card.figures["aods"]), key=lambda aod: (self.ends.get(("aod", aod), 0), aod))
+            used = used + [("aod", instruction["aod"])]
+        instruction["begin"] = max(self.ends.get(thing, 0) for thing in used)
+        instruction["end"] = instruction["begin"] + duration
+        self.ends.update(dict.fromkeys(used, instruction["end"]))
         return instruction
 
-    figures, at = card.figures, homes(card, qubits, ops)
+
+def plan(card, qubits, ops, text=None):
+    yield {"type": "zair", "version": 1}
+    figures, at, schedule = card.figures, homes(card, qubits, ops), Schedule(card)
     pulses, slots = stages(ops, card.sites)
     taken = None if text is None else taken_from(card, text)
     if taken is not None and len(taken) != len(pulses):
         raise Wrong(f"{len(taken)} pulses for {len(pulses)}")
-    yield timed({"type": "init", "homes": list(at)}, 0)
+    laser = lambda qubits: [("laser",)] + [("qubit", q) for q in qubits]
+    lit = [("trap", trap) for trap in range(card.storage, len(card.points))]
+    yield {"type": "init", "homes": list(at), "begin": 0, "end": 0}
     for t, gates in enumerate(slots):
         if gates:
-            yield timed({"type": "1qGate", "gates": gates}, figures["one"] * len(gates))
+            yield schedule.timed({"type": "1qGate", "gates": gates}, figures["one"] * len(gates), laser(gate["q"] for gate in gates))
         if t == len(pulses):
             break
         between = Between(card, at, pulses[t - 1] if t else [], pulses[t], taken and taken[t])
         for moves in (between.returns, between.arrivals):
             for moving in jobs(card, moves):
-                yield timed(*moving)
-        yield timed({"type": "rydberg", "pairs": pulses[t]}, figures["pulse"])
+                yield schedule.timed(*moving)
+        used = laser(q for _, *pair in pulses[t] for q in pair) + lit
+        yield schedule.timed({"type": "rydberg", "pairs": pulses[t]}, figures["pulse"], used)
     reads = [[number, op[1], op[2]] for number, op in enumerate(ops) if op[0] == "read"]
     if reads:
-        yield timed({"type": "readout", "reads": reads}, figures["readout"])
+        yield schedule.timed({"type": "readout", "reads": reads}, figures["readout"], laser(q for _, q, _ in reads))
 
 
 def tally(lines):
