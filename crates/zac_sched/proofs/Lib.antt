@@ -1,0 +1,4 @@
+pub mod Surroundings
+pub mod Unmoved
+pub mod Commuting
+pub mod Transfer
