@@ -2,3 +2,4 @@ pub mod Surroundings
 pub mod Unmoved
 pub mod Commuting
 pub mod Transfer
+pub mod Darkness
