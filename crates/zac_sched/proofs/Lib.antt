@@ -3,3 +3,4 @@ pub mod Unmoved
 pub mod Commuting
 pub mod Transfer
 pub mod Darkness
+pub mod Exchanging
