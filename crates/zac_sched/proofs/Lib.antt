@@ -1,4 +1,5 @@
 pub mod Surroundings
+pub mod Differing
 pub mod Unmoved
 pub mod Commuting
 pub mod Transfer
