@@ -1,5 +1,5 @@
 -- The states before and behind a tidy step differ only in what its act uses.
-use Rattle.std.proofs.Common.{◌≡◌, ◌≢◌, ℕ, ◌⊎◌, inl, inr, true, List, length, length-set, get_or-set_other, get_or-set_same, slice_get, refl, sym, ap, ◌∙◌, subst}
+use Rattle.std.proofs.Common.{◌≡◌, ◌≢◌, ℕ, ◌⊎◌, inl, inr, true, length, length-set, get_or-set_other, get_or-set_same, slice_get, refl, sym, ap, ◌∙◌, subst}
 use Rattle.std.specs.List.{Contains}
 use Rattle.std.proofs.lemmas.Bool.{cases_eq, eqb-true}
 use Rattle.std.proofs.lemmas.List.Elements.{All-contains}
@@ -16,7 +16,7 @@ use Rattle.zair_form.specs.declared.step.Step.TheVariants as kind
 use Rattle.zair_state.specs.Legal.{Drops, IsLegal, Picks}
 use Rattle.zair_state.specs.Resources.{Uses}
 use Rattle.zair_state.specs.Resources.{Resource as resource}
-use Rattle.zair_state.specs.Result.{after, with_beams}
+use Rattle.zair_state.specs.Result.{after}
 use Rattle.zair_state.specs.State.{State, Beams, beams_of, crossing, EachCrossing, idle, IsAt}
 use Rattle.zair_state.specs.declared.place.Place.{Place}
 use Rattle.zair_state.specs.declared.place.Place.TheVariants.{Trap, Held}
@@ -25,8 +25,8 @@ use Rattle.zair_state.proofs.Membership.{contained_in_map, contains_none}
 use Rattle.zac_sched.specs.Exchange.{IsAtTrapsOf, IsTidyStep, KeepsToItsTraps}
 use Rattle.zac_sched.proofs.Surroundings.{CardLaws}
 use Rattle.zac_sched.proofs.Differing.{CrossesOwnTraps, DifferOnlyIn, IsCarried}
-use Rattle.zac_sched.proofs.JobSteps.{IsOfJob, aod_used, job_or_still, qubit_used}
-use Rattle.zac_sched.proofs.Writes.{after_writes, beams_set, places_set, stepped, written, written_at}
+use Rattle.zac_sched.proofs.JobSteps.{aod_used, job_or_still, qubit_used}
+use Rattle.zac_sched.proofs.Writes.{after_writes, beams_set, places_set, stepped, written_at}
 
 one_point_or_two : (p q : Point) → (p ≡ q) ⊎ (p ≢ q)
 one_point_or_two p q = elim (cases_eq p.x q.x) [
@@ -39,6 +39,7 @@ one_point_or_two p q = elim (cases_eq p.x q.x) [
   | inr ne ↦ inr (λ e. ne (ap (λ (r : Point). r.x) e))
 ]
 
+-- the crossings of an act that has a step are at its traps, as it keeps to them
 crosses : (a : Architecture) (x : Act) (s : State) (step : Step) → Contains (steps_of x) step → KeepsToItsTraps a s x → CrossesOwnTraps a x s
 crosses a (Init homes) s step within keeps = absurd (contains_none step within)
 crosses a (Gates ones) s step within keeps = λ aod used. absurd used
@@ -60,10 +61,10 @@ module _ (a : Architecture) (laws : CardLaws a) (x : Act) (s : State) where
   carried : (n : ℕ) (step : Step) (w : ℕ × Place) → Contains (places_set step) w → IsLegal a s step → is_step_of n step ≡ true → Uses a x (resource.Aod n) →
       CrossesOwnTraps a x s → CrossesOwnTraps a x (after s step) → Uses a x (resource.Qubit w.0) → ((p : Place) → IsAt s w.0 p → IsAt (after s step) w.0 w.1) →
       IsCarried a x s (after s step) w.0
-  carried n (Activate aod rows columns atoms) w within legal own aod_used before behind used moves =
+  carried n (Activate aod rows columns atoms) w within legal own its_aod before behind used moves =
       let step : Step = Activate aod rows columns atoms in
       let there : Beams = beams_set step (beams_of s aod) in
-      let aod_own : Uses a x (resource.Aod aod) = subst (λ (m : ℕ). Uses a x (resource.Aod m)) (sym (eqb-true aod n own)) aod_used in
+      let aod_own : Uses a x (resource.Aod aod) = subst (λ (m : ℕ). Uses a x (resource.Aod m)) (sym (eqb-true aod n own)) its_aod in
       let same : beams_of (after s step) aod ≡ there = get_or-set_same s.aods aod there idle legal.known in
       let near : EachCrossing there.rows there.columns (λ row column. IsAtTrapsOf a x (crossing row column)) =
       subst (λ (b : Beams). EachCrossing b.rows b.columns (λ row column. IsAtTrapsOf a x (crossing row column))) same (behind aod aod_own) in
@@ -80,10 +81,10 @@ module _ (a : Architecture) (laws : CardLaws a) (x : Act) (s : State) where
         own_here = own_trap pick.trap.0 (crossing pick.row pick.column) (near pick.row pick.column pick.row_active pick.column_active) pick.exact;
         own_there = aod_own;
       }
-  carried n (Move aod rows columns) w within legal own aod_used before behind used moves = absurd (contains_none w within)
-  carried n (Deactivate aod rows columns atoms) w within legal own aod_used before behind used moves =
+  carried n (Move aod rows columns) w within legal own its_aod before behind used moves = absurd (contains_none w within)
+  carried n (Deactivate aod rows columns atoms) w within legal own its_aod before behind used moves =
       let step : Step = Deactivate aod rows columns atoms in
-      let aod_own : Uses a x (resource.Aod aod) = subst (λ (m : ℕ). Uses a x (resource.Aod m)) (sym (eqb-true aod n own)) aod_used in
+      let aod_own : Uses a x (resource.Aod aod) = subst (λ (m : ℕ). Uses a x (resource.Aod m)) (sym (eqb-true aod n own)) its_aod in
       let d = contained_in_map (λ (d : Dropped). (d.q, Trap d.trap)) atoms w within in
       let drop = All-contains (Drops a s aod rows columns) atoms d.0 legal.drops d.1 in
       let held : IsAt s w.0 (Held aod drop.row.id drop.column.id) = subst (λ (q : ℕ). IsAt s q (Held aod drop.row.id drop.column.id)) (ap (λ (p : ℕ × Place). p.0) d.2) drop.held in
@@ -97,10 +98,11 @@ module _ (a : Architecture) (laws : CardLaws a) (x : Act) (s : State) where
         own_here = aod_own;
         own_there = own_trap d.0.trap.0 (crossing drop.row drop.column) (before aod aod_own drop.row drop.column drop.row_active drop.column_active) drop.exact;
       }
-  carried n (One gate) w within legal own aod_used before behind used moves = absurd (contains_none w within)
-  carried n (Pulse pairs) w within legal own aod_used before behind used moves = absurd (contains_none w within)
-  carried n (kind.Readout reads) w within legal own aod_used before behind used moves = absurd (contains_none w within)
+  carried n (One gate) w within legal own its_aod before behind used moves = absurd (contains_none w within)
+  carried n (Pulse pairs) w within legal own its_aod before behind used moves = absurd (contains_none w within)
+  carried n (kind.Readout reads) w within legal own its_aod before behind used moves = absurd (contains_none w within)
 
+  -- a tidy step changes only what its act uses
   pub differ_behind : (step : Step) → IsTidyStep a s x step → DifferOnlyIn a x s (after s step)
   differ_behind step tidy =
       let before : CrossesOwnTraps a x s = crosses a x s step tidy.of_act tidy.before in

@@ -1,12 +1,11 @@
 -- Two states that differ only in what one act uses show the same to every act that doesn't conflict with it.
-use Rattle.std.proofs.Common.{◌≡◌, ◌≢◌, ℕ, ◌<◌, ◌≤◌, ◌⊎◌, inl, inr, Some, length, slice_get, refl, sym, ◌∙◌, subst, arith}
+use Rattle.std.proofs.Common.{◌≡◌, ℕ, ◌≤◌, ◌⊎◌, inl, inr, Some, length, slice_get, refl, sym, ◌∙◌, subst}
 use Rattle.std.proofs.lemmas.Bool.{cases_eq, cases_lt}
 use Rattle.std.proofs.lemmas.Option.{slice_get_within}
-use Rattle.zac_arch.specs.Architecture.{Architecture, IsLit, StandsAt, storage_count, trap_count, trap_points}
+use Rattle.zac_arch.specs.Architecture.{Architecture, IsLit, StandsAt, storage_count, trap_points}
 use Rattle.zac_arch.specs.Distances.{IsFarther}
 use Rattle.zac_arch.specs.Parking.{IsCorner}
 use Rattle.zac_arch.specs.declared.place.Point.{Point}
-use Rattle.zac_arch.specs.declared.place.TrapId.{TrapId}
 use Rattle.zair_form.specs.declared.program.Act.{Act}
 use Rattle.zair_form.specs.declared.program.Act.TheVariants.{Init, Gates, Rydberg, Job, Readout}
 use Rattle.zair_state.specs.Resources.{Conflict, Uses}
@@ -130,6 +129,7 @@ module _ (a : Architecture) (laws : CardLaws a) (x y : Act) (apart : ¬ Conflict
       | inr none ↦ subst (λ (b : Beams). EachCrossing b.rows b.columns (λ row column. ¬ IsLit a (crossing row column))) (differ.others aod none) (dark aod)
     ]
 
+  -- what the one act leaves alone is all that the other sees
   pub shows_other : (s s' : State) → DifferOnlyIn a x s s' → Shows a s s' y
   shows_other s s' differ =
       let back = differ_back a x s s' differ in

@@ -1,5 +1,5 @@
 -- What the steps of an act are, and what they carry.
-use Rattle.std.proofs.Common.{◌≡◌, ℕ, ◌⊎◌, inl, inr, true, List, [], ◌∷◌, map, refl, sym, ap, subst}
+use Rattle.std.proofs.Common.{◌≡◌, ℕ, ◌⊎◌, inl, inr, true, List, [], ◌∷◌, refl, sym, ap, subst}
 use Rattle.std.specs.List.{Contains}
 use Rattle.zac_arch.specs.Architecture.{Architecture}
 use Rattle.zair_form.specs.Steps.{has_own_steps, is_step_of, steps_of}
@@ -31,6 +31,7 @@ pub record IsOfJob (x : Act) (step : Step) : Type 0 where
 one_of : (h : Step) (step : Step) → Contains (h ∷ []) step → h ≡ step
 one_of h step within = elim (contains_cases h step [] within) [ inl e ↦ e | inr later ↦ absurd (contains_none step later) ]
 
+-- each step of an act is of one of these two kinds
 pub job_or_still : (x : Act) (step : Step) → Contains (steps_of x) step → has_own_steps x ≡ true → IsOfJob x step ⊎ ((s : State) → after s step ≡ s)
 job_or_still (Init homes) step within own = absurd (contains_none step within)
 job_or_still (Gates ones) step within own =
@@ -53,6 +54,7 @@ places_carried (One gate) w within = contains_none w within
 places_carried (Pulse pairs) w within = contains_none w within
 places_carried (kind.Readout reads) w within = contains_none w within
 
+-- so a job uses these qubits, and its AOD
 pub qubit_used : (a : Architecture) (x : Act) (step : Step) → (job : IsOfJob x step) → (w : ℕ × Place) → Contains (places_set step) w → Uses a x (resource.Qubit w.0)
 qubit_used a x step job w within =
     subst (λ (act : Act). Uses a act (resource.Qubit w.0)) (sym job.is_job)

@@ -1,9 +1,8 @@
 -- A step of an AOD as what it writes: places of qubits, and the beams of that AOD.
-use Rattle.std.proofs.Common.{◌≡◌, ◌≢◌, ℕ, zero, suc, ◌⊎◌, inl, inr, Bool, true, false, List, [], ◌∷◌, Some, get_or-set_other, map, set, slice_get, refl, sym, ap, ◌∙◌, subst}
+use Rattle.std.proofs.Common.{◌≡◌, ◌≢◌, ℕ, zero, suc, ◌⊎◌, inl, inr, true, List, [], ◌∷◌, Some, get_or-set_other, map, set, slice_get, refl, sym, ap, ◌∙◌, subst}
 use Rattle.std.specs.List.{Contains, list_all}
 use Rattle.std.proofs.lemmas.Bool.{and_parts, cases_eq, eqb-true, false≢true}
 use Rattle.zair_form.specs.Steps.{is_step_of}
-use Rattle.zair_form.specs.declared.step.Beam.{Beam}
 use Rattle.zair_form.specs.declared.step.Caught.{Caught}
 use Rattle.zair_form.specs.declared.step.Dropped.{Dropped}
 use Rattle.zair_form.specs.declared.step.Step.{Step}
@@ -87,9 +86,11 @@ set_apart (z ∷ zs) zero (suc k) x y ne = refl
 set_apart (z ∷ zs) (suc i) zero x y ne = refl
 set_apart (z ∷ zs) (suc i) (suc k) x y ne = ap (λ (l : _). z ∷ l) (set_apart zs i k x y (λ e. ne (ap suc e)))
 
+-- no number of the one list is one of the other
 abbrev pub AreApartAt : {X : Type 0} → List (ℕ × X) → List (ℕ × X) → Type 0
 AreApartAt {X} ws vs = (w v : ℕ × X) → Contains ws w → Contains vs v → w.0 ≢ v.0
 
+-- a write may come before the others, if none of them is at its number
 set_past : {X : Type 0} (ws : List (ℕ × X)) (xs : List X) (i : ℕ) (x : X) → ((w : ℕ × X) → Contains ws w → w.0 ≢ i) →
     written ws (set xs i x) ≡ set (written ws xs) i x
 set_past [] xs i x ne = refl
@@ -146,7 +147,7 @@ stepped_apart n m step next s ne apart =
     let there : beams_of (stepped n step s) m ≡ beams_of s m = get_or-set_other s.aods n m (beams_set step (beams_of s n)) idle (λ e. ne (sym e)) in
     let places : written (places_set step) (written (places_set next) s.places) ≡ written (places_set next) (written (places_set step) s.places) = written_apart (places_set step) (places_set next) s.places apart in
     let aods : set (set s.aods m (beams_set next (beams_of s m))) n (beams_set step (beams_of (stepped m next s) n))
-        ≡ set (set s.aods n (beams_set step (beams_of s n))) m (beams_set next (beams_of (stepped n step s) m)) =
+    ≡ set (set s.aods n (beams_set step (beams_of s n))) m (beams_set next (beams_of (stepped n step s) m)) =
     ap (λ (b : Beams). set (set s.aods m (beams_set next (beams_of s m))) n (beams_set step b)) here
     ∙ set_apart s.aods m n (beams_set next (beams_of s m)) (beams_set step (beams_of s n)) (λ e. ne (sym e))
     ∙ ap (λ (b : Beams). set (set s.aods n (beams_set step (beams_of s n))) m (beams_set next b)) (sym there) in
