@@ -28,7 +28,8 @@ pub record IsOfJob (x : Act) (step : Step) : Type 0 where
   pub in_steps : Contains steps step
   pub own : is_step_of aod step ≡ true
 
-one_of : (h : Step) (step : Step) → Contains (h ∷ []) step → h ≡ step
+-- the one step of a list
+pub one_of : (h : Step) (step : Step) → Contains (h ∷ []) step → h ≡ step
 one_of h step within = elim (contains_cases h step [] within) [ inl e ↦ e | inr later ↦ absurd (contains_none step later) ]
 
 -- each step of an act is of one of these two kinds

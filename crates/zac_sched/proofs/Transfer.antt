@@ -1,15 +1,11 @@
 -- A tidy step is tidy in every state that shows its act the same.
-use Rattle.std.proofs.Common.{◌≡◌, ◌≢◌, ℕ, ◌+◌, ◌<◌, ◌≤◌, ◌⊎◌, inl, inr, true, false, ◌==◌, List, [], ◌∷◌, length, map, get_or, set, get_or-set_same, eqb-true, refl, sym, ap, ◌∙◌, subst, arith}
-use Rattle.std.specs.List.{All, Any, Contains, list_all}
+use Rattle.std.proofs.Common.{◌≡◌, ◌≢◌, ℕ, ◌<◌, inl, inr, true, List, [], length, get_or, set, get_or-set_same, eqb-true, refl, sym, ap, ◌∙◌, subst}
+use Rattle.std.specs.List.{All, Contains}
 use Rattle.std.proofs.lemmas.Bool.{cases_eq}
 use Rattle.std.proofs.lemmas.List.Elements.{All-contains}
-use Rattle.std.proofs.lemmas.List.Sums.{AllPass-from_list_all}
-use Rattle.zac_arch.specs.Architecture.{Architecture, StandsAt, trap_points}
-use Rattle.zac_arch.specs.Distances.{IsFarther}
-use Rattle.zac_arch.specs.Parking.{IsCorner}
+use Rattle.zac_arch.specs.Architecture.{Architecture, StandsAt}
 use Rattle.zac_arch.specs.declared.place.Point.{Point}
-use Rattle.zac_arch.specs.declared.place.TrapId.{TrapId}
-use Rattle.zair_form.specs.Steps.{has_own_steps, is_step_of, steps_of}
+use Rattle.zair_form.specs.Steps.{is_step_of}
 use Rattle.zair_form.specs.declared.program.Act.{Act}
 use Rattle.zair_form.specs.declared.program.Act.TheVariants.{Init, Gates, Rydberg, Job, Readout}
 use Rattle.zair_form.specs.declared.step.Beam.{Beam}
@@ -21,16 +17,18 @@ use Rattle.zair_form.specs.declared.step.ReadOf.{ReadOf}
 use Rattle.zair_form.specs.declared.step.Step.{Step}
 use Rattle.zair_form.specs.declared.step.Step.TheVariants.{Activate, Move, Deactivate, One, Pulse}
 use Rattle.zair_form.specs.declared.step.Step.TheVariants as kind
-use Rattle.zair_state.specs.Legal.{AreFresh, AreOnce, CarriesOverEmptyTrap, Drops, IsLegal, IsLegalActivate, IsLegalDeactivate, IsLegalMove, IsLegalPulse, ListsActive, ListsPairsInRange, Picks, Rests}
+use Rattle.zair_state.specs.Legal.{AreFresh, CarriesOverEmptyTrap, Drops, IsLegalActivate, IsLegalDeactivate, IsLegalMove, IsLegalPulse, ListsActive, Picks, Rests}
 use Rattle.zair_state.specs.Resources.{Carries, Uses}
 use Rattle.zair_state.specs.Resources.{Resource as resource}
-use Rattle.zair_state.specs.Result.{after, with_beams, without_beams}
-use Rattle.zair_state.specs.State.{State, Beams, idle, beams_of, crossing, AreInRange, EachCrossing, HasId, IsAt, IsClear, IsFreeOfOthers, RestsLit}
-use Rattle.zair_state.specs.declared.place.Place.TheVariants.{Trap, Held}
+use Rattle.zair_state.specs.Result.{with_beams, without_beams}
+use Rattle.zair_state.specs.State.{State, Beams, idle, beams_of, crossing, AreInRange, EachCrossing, HasId, IsClear, RestsLit}
+use Rattle.zair_state.specs.declared.place.Place.TheVariants.{Trap}
 use Rattle.zair_state.proofs.Changing.{not_farther_there}
-use Rattle.zair_state.proofs.Membership.{all_from_contains, any_from_contained, contained_in_map, contains_cases, contains_none}
-use Rattle.zac_sched.specs.Exchange.{IsAtTrapsOf, IsTidyStep, KeepsToItsTraps}
-use Rattle.zac_sched.proofs.Surroundings.{CardLaws, IsPulse, Shows}
+use Rattle.zair_state.proofs.Membership.{all_from_contains, any_from_contained, contained_in_map, contains_none}
+use Rattle.zac_sched.specs.Exchange.{IsAtTrapsOf, IsTidyStep}
+use Rattle.zac_sched.proofs.JobSteps.{one_of}
+use Rattle.zac_sched.proofs.Surroundings.{CardLaws, Shows}
+use Rattle.zac_sched.proofs.Writes.{own_step}
 
 same_point : (p q : Point) → p.x ≡ q.x → p.y ≡ q.y → p ≡ q
 same_point p q ex ey = ap (λ u. let r : Point = record { x = u; y = p.y } in r) ex ∙ ap (λ v. let r : Point = record { x = q.x; y = v } in r) ey
@@ -203,11 +201,7 @@ module _ (a : Architecture) (laws : CardLaws a) (s s' : State) (aod : ℕ) (step
       behind = subst (AtTraps a (Job aod steps)) (beams_behind s s' aod switched_off tidy.legal.known shows.count same) tidy.behind;
     }
 
--- a step of a job is one of the job's own AOD
-own_step : (aod : ℕ) (steps : List Step) (step : Step) → list_all (is_step_of aod) steps ≡ true → Contains steps step → is_step_of aod step ≡ true
-own_step aod steps step h c = All-contains (λ (t : Step). is_step_of aod t ≡ true) steps step (AllPass-from_list_all (is_step_of aod) steps h) c
-
--- so it is with a job's step on an AOD that is the job's
+-- what is shown of a step of a job on each AOD
 abbrev GoesOver : Architecture → State → State → Step → List Step → ℕ → Type 0
 GoesOver a s s' step steps aod = Shows a s s' (Job aod steps) → IsTidyStep a s (Job aod steps) step → IsTidyStep a s' (Job aod steps) step
 
@@ -271,9 +265,6 @@ readout_step a s s' reads shows tidy = record {
   behind = tt;
 }
 
-only_step : (one step : Step) → Contains (one ∷ []) step → one ≡ step
-only_step one step c = elim (contains_cases one step [] c) [ inl e ↦ e | inr none ↦ absurd (contains_none step none) ]
-
 pub tidy_where_shown : (a : Architecture) → CardLaws a → (s s' : State) (act : Act) (step : Step) → Shows a s s' act → IsTidyStep a s act step → IsTidyStep a s' act step
 tidy_where_shown a laws s s' (Init homes) step shows tidy = absurd (contains_none step tidy.of_act)
 tidy_where_shown a laws s s' (Gates ones) step shows tidy =
@@ -281,12 +272,12 @@ tidy_where_shown a laws s s' (Gates ones) step shows tidy =
     subst (λ (t : Step). IsTidyStep a s' (Gates ones) t) gate.2
     (gates_step a s s' ones gate.0 gate.1 shows (subst (λ (t : Step). IsTidyStep a s (Gates ones) t) (sym gate.2) tidy))
 tidy_where_shown a laws s s' (Rydberg pairs) step shows tidy =
-    let pulse = only_step (Pulse pairs) step tidy.of_act in
+    let pulse = one_of (Pulse pairs) step tidy.of_act in
     subst (λ (t : Step). IsTidyStep a s' (Rydberg pairs) t) pulse
     (pulse_step a s s' pairs shows (subst (λ (t : Step). IsTidyStep a s (Rydberg pairs) t) (sym pulse) tidy))
 tidy_where_shown a laws s s' (Job aod steps) step shows tidy =
     job_step a laws s s' aod steps step (own_step aod steps step tidy.own tidy.of_act) shows tidy
 tidy_where_shown a laws s s' (Readout reads) step shows tidy =
-    let readout = only_step (kind.Readout reads) step tidy.of_act in
+    let readout = one_of (kind.Readout reads) step tidy.of_act in
     subst (λ (t : Step). IsTidyStep a s' (Readout reads) t) readout
     (readout_step a s s' reads shows (subst (λ (t : Step). IsTidyStep a s (Readout reads) t) (sym readout) tidy))
