@@ -1,5 +1,5 @@
 -- The timed steps of a program: to which instruction each belongs, and how the times of two of them lie.
-use Rattle.std.proofs.Common.{◌≡◌, ℕ, ◌+◌, ◌<◌, ◌≤◌, ◌⊎◌, List, [], ◌∷◌, ◌++◌, length, refl, sym, ◌∙◌, subst, inl, inr, arith}
+use Rattle.std.proofs.Common.{◌≡◌, ℕ, ◌+◌, ◌<◌, ◌≤◌, ◌⊎◌, List, [], ◌∷◌, ◌++◌, length, refl, sym, ap, ◌∙◌, subst, inl, inr, arith}
 use Rattle.std.specs.List.{AllByRecursion}
 use Rattle.std.proofs.lemmas.List.{length_push}
 use Rattle.zac_arch.specs.Architecture.{Architecture}
@@ -44,6 +44,33 @@ record IsBefore (x y : Timed) : Type 0 where
   place : x.place < y.place
   times : x.end ≤ y.begin
 
+-- The timed step belongs to this instruction: it is of this act, and lies between the instruction's begin and end.
+pub record BelongsTo (act : ℕ → Act) (i : Instr) (t : Timed) : Type 0 where
+  pub acts : act t.instr ≡ i.act
+  pub begins : i.begin ≤ t.begin
+  pub ends : t.end ≤ i.end
+
+earlier_too : (number least' least from' from to' to : ℕ) (t : Timed) → least' ≤ least → from' ≤ from → to ≤ to' →
+    Lies number least from to t → Lies number least' from' to' t
+earlier_too number least' least from' from to' to t le_place le_from le_to lies =
+    let place = lies.place in
+    let begins = lies.begins in
+    let ends = lies.ends in
+    record { instr = lies.instr; place = omega arith; begins = omega arith; rises = lies.rises; ends = omega arith }
+
+before_these : (number here least from to : ℕ) (t u : Timed) → t.instr ≡ number → t.place ≡ here → here < least → t.end ≤ from →
+    Lies number least from to u → IsBefore t u
+before_these number here least from to t u instr place later ends lies =
+    let begins = lies.begins in
+    let beyond = lies.place in
+    record { instr = instr ∙ sym lies.instr; place = omega arith; times = omega arith }
+
+belongs : (act : ℕ → Act) (number : ℕ) (i : Instr) (long : ℕ) (t : Timed) → act number ≡ i.act → i.end ≡ i.begin + long →
+    Lies number 0 i.begin (i.begin + long) t → (t.instr ≡ number) × BelongsTo act i t
+belongs act number i long t acts end lies =
+    let ends = lies.ends in
+    (lies.instr, record { acts = ap act lies.instr ∙ acts; begins = lies.begins; ends = omega arith })
+
 -- the steps of one instruction
 own_steps : (f : Figures) (number : ℕ) (earlier : List Step) (from : ℕ) (ss : List Step) (ts : List Timed) (long : ℕ) →
     AreTimed f number earlier from ss ts → LastTogether f earlier ss long →
@@ -51,4 +78,65 @@ own_steps : (f : Figures) (number : ℕ) (earlier : List Step) (from : ℕ) (ss 
 own_steps f number earlier from [] [] long timed together = (tt, tt)
 own_steps f number earlier from [] (t ∷ ts) long timed together = absurd timed
 own_steps f number earlier from (s ∷ ss) [] long timed together = absurd timed
-own_steps f number earlier from (s ∷ ss) (t ∷ ts) long timed together = ?
+own_steps f number earlier from (s ∷ ss) (t ∷ ts) long timed together =
+    let own = timed.0.duration in
+    let same : own ≡ together.0 = lasts_same f earlier s own together.0 timed.0.lasts together.3 in
+    let number_of : t.instr ≡ number = timed.0.instr in
+    let place : t.place ≡ length earlier = timed.0.place in
+    let begin : t.begin ≡ from = timed.0.begin in
+    let end : t.end ≡ from + own = timed.0.end in
+    let sum : long ≡ together.0 + together.1 = together.2 in
+    let more : length (earlier ++ s ∷ []) ≡ length earlier + 1 = length_push earlier s in
+    let rest = own_steps f number (earlier ++ s ∷ []) t.end ss ts together.1 timed.1 together.4 in
+    let first : Lies number (length earlier) from (from + long) t = record {
+      instr = number_of;
+      place = omega arith;
+      begins = omega arith;
+      rises = omega arith;
+      ends = omega arith;
+    } in
+    let wider = λ (u : Timed) (lies : Lies number (length (earlier ++ s ∷ [])) t.end (t.end + together.1) u).
+    earlier_too number (length earlier) (length (earlier ++ s ∷ [])) from t.end (from + long) (t.end + together.1) u
+    (omega arith) (omega arith) (omega arith) lies in
+    let behind = λ (u : Timed) (lies : Lies number (length (earlier ++ s ∷ [])) t.end (t.end + together.1) u).
+    before_these number (length earlier) (length (earlier ++ s ∷ [])) t.end (t.end + together.1) t u
+    number_of place (omega arith) (omega arith) lies in (
+      (first, all_weaker (Lies number (length (earlier ++ s ∷ [])) t.end (t.end + together.1)) (Lies number (length earlier) from (from + long)) ts wider rest.0),
+      (all_weaker (Lies number (length (earlier ++ s ∷ [])) t.end (t.end + together.1)) (IsBefore t) ts behind rest.0, rest.1),
+    )
+
+-- the acts of the program's instructions, the first of which has this number
+abbrev pub AreActs : (ℕ → Act) → ℕ → List Instr → Type 0
+AreActs act number [] = Unit {0}
+AreActs act number (i ∷ is) = (act number ≡ i.act) × AreActs act (number + 1) is
+
+-- an instruction's own steps belong to it
+own_belong : (act : ℕ → Act) (f : Figures) (number : ℕ) (i : Instr) (ts : List Timed) → act number ≡ i.act → HasLength f i →
+    AreTimed f number [] i.begin (steps_of i.act) ts →
+    AllByRecursion (λ t. (t.instr ≡ number) × BelongsTo act i t) ts
+own_belong act f number i ts acts long timed =
+    all_weaker (Lies number 0 i.begin (i.begin + long.0)) (λ (t : Timed). (t.instr ≡ number) × BelongsTo act i t) ts
+    (λ t lies. belongs act number i long.0 t acts long.1 lies)
+    (own_steps f number [] i.begin (steps_of i.act) ts long.0 timed long.2).0
+
+-- Each timed step belongs to an instruction of the program, and what holds of all instructions holds of this one.
+pub each_belongs : (act : ℕ → Act) (f : Figures) (P : Instr → Type 0) (number : ℕ) (program : List Instr) (ts : List Timed) →
+    AreActs act number program → AllByRecursion (HasLength f) program → AllByRecursion P program → AreTimedSteps f number program ts →
+    AllByRecursion (λ t. (i : Instr) × P i × BelongsTo act i t × (number ≤ t.instr)) ts
+each_belongs act f P number program ts acts lengths all timed = ?
+
+-- the first comes before the second in the list: in an earlier instruction, or earlier in the same
+abbrev pub IsListedBefore : Timed → Timed → Type 0
+IsListedBefore x y = (x.instr < y.instr) ⊎ ((x.instr ≡ y.instr) × (x.place < y.place))
+
+-- the first is listed before the second; and if their acts conflict, it has ended when the second begins
+pub record ComesBefore (a : Architecture) (act : ℕ → Act) (x y : Timed) : Type 0 where
+  pub listed : IsListedBefore x y
+  pub ended : Conflict a (act x.instr) (act y.instr) → x.end ≤ y.begin
+
+-- so it is with each two timed steps of a program whose instructions are apart
+pub each_comes_before : (a : Architecture) (act : ℕ → Act) (number : ℕ) (program : List Instr) (ts : List Timed) →
+    AreActs act number program → AllByRecursion (HasLength a.figures) program →
+    EachLater (λ i j. Conflict a i.act j.act → i.end ≤ j.begin) program → AreTimedSteps a.figures number program ts →
+    EachLater (ComesBefore a act) ts
+each_comes_before a act number program ts acts lengths apart timed = ?
