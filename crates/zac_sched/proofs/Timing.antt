@@ -123,7 +123,17 @@ own_belong act f number i ts acts long timed =
 pub each_belongs : (act : ℕ → Act) (f : Figures) (P : Instr → Type 0) (number : ℕ) (program : List Instr) (ts : List Timed) →
     AreActs act number program → AllByRecursion (HasLength f) program → AllByRecursion P program → AreTimedSteps f number program ts →
     AllByRecursion (λ t. (i : Instr) × P i × BelongsTo act i t × (number ≤ t.instr)) ts
-each_belongs act f P number program ts acts lengths all timed = ?
+each_belongs act f P number [] ts acts lengths all timed =
+    subst (AllByRecursion (λ (t : Timed). (i : Instr) × P i × BelongsTo act i t × (number ≤ t.instr))) (sym timed) tt
+each_belongs act f P number (i ∷ is) ts acts lengths all timed =
+    let Q = λ (t : Timed). (j : Instr) × P j × BelongsTo act j t × (number ≤ t.instr) in
+    let own = all_weaker (λ (t : Timed). (t.instr ≡ number) × BelongsTo act i t) Q timed.0
+    (λ t h. let e : t.instr ≡ number = h.0 in (i, all.0, h.1, omega arith))
+    (own_belong act f number i timed.0 acts.0 lengths.0 timed.3) in
+    let rest = all_weaker (λ (t : Timed). (j : Instr) × P j × BelongsTo act j t × (number + 1 ≤ t.instr)) Q timed.1
+    (λ t h. let later : number + 1 ≤ t.instr = h.3 in (h.0, h.1, h.2, omega arith))
+    (each_belongs act f P (number + 1) is timed.1 acts.1 lengths.1 all.1 timed.4) in
+    subst (AllByRecursion Q) (sym timed.2) (all_append Q timed.0 timed.1 own rest)
 
 -- the first comes before the second in the list: in an earlier instruction, or earlier in the same
 abbrev pub IsListedBefore : Timed → Timed → Type 0
@@ -134,9 +144,44 @@ pub record ComesBefore (a : Architecture) (act : ℕ → Act) (x y : Timed) : Ty
   pub listed : IsListedBefore x y
   pub ended : Conflict a (act x.instr) (act y.instr) → x.end ≤ y.begin
 
+-- the steps of one instruction come one before the other
+later_in_one : (a : Architecture) (act : ℕ → Act) (number : ℕ) (i : Instr) (ts : List Timed) → HasLength a.figures i →
+    AreTimed a.figures number [] i.begin (steps_of i.act) ts → EachLater (ComesBefore a act) ts
+later_in_one a act number i ts long timed =
+    let steps = own_steps a.figures number [] i.begin (steps_of i.act) ts long.0 timed long.2 in
+    later_from_all (Lies number 0 i.begin (i.begin + long.0)) IsBefore (ComesBefore a act) ts
+    (λ x y p q before. record { listed = inr (before.instr, before.place); ended = λ conflict. before.times })
+    steps.0 steps.1
+
+-- the timed step belongs to an instruction of at least this number that is apart from the given one
+abbrev IsOfLater : Architecture → (ℕ → Act) → Instr → ℕ → Timed → Type 0
+IsOfLater a act i least t = (j : Instr) × (Conflict a i.act j.act → i.end ≤ j.begin) × BelongsTo act j t × (least ≤ t.instr)
+
+apart_times : (x y : Timed) (i j : Instr) → x.end ≤ i.end → i.end ≤ j.begin → j.begin ≤ y.begin → x.end ≤ y.begin
+apart_times x y i j ends apart begins = omega arith
+
+comes_before : (a : Architecture) (act : ℕ → Act) (number : ℕ) (i : Instr) (x y : Timed) → x.instr ≡ number → BelongsTo act i x →
+    IsOfLater a act i (number + 1) y → ComesBefore a act x y
+comes_before a act number i x y e here there =
+    let least : number + 1 ≤ y.instr = there.3 in
+    let ended = λ (conflict : Conflict a (act x.instr) (act y.instr)).
+    let of_first = subst (λ (u : Act). Conflict a u (act y.instr)) here.acts conflict in
+    let of_both = subst (λ (u : Act). Conflict a i.act u) there.2.acts of_first in
+    apart_times x y i there.0 here.ends (there.1 of_both) there.2.begins in
+    record { listed = inl (omega arith); ended = ended }
+
 -- so it is with each two timed steps of a program whose instructions are apart
 pub each_comes_before : (a : Architecture) (act : ℕ → Act) (number : ℕ) (program : List Instr) (ts : List Timed) →
     AreActs act number program → AllByRecursion (HasLength a.figures) program →
     EachLater (λ i j. Conflict a i.act j.act → i.end ≤ j.begin) program → AreTimedSteps a.figures number program ts →
     EachLater (ComesBefore a act) ts
-each_comes_before a act number program ts acts lengths apart timed = ?
+each_comes_before a act number [] ts acts lengths apart timed = subst (EachLater (ComesBefore a act)) (sym timed) tt
+each_comes_before a act number (i ∷ is) ts acts lengths apart timed =
+    let own = later_in_one a act number i timed.0 lengths.0 timed.3 in
+    let rest = each_comes_before a act (number + 1) is timed.1 acts.1 lengths.1 apart.1 timed.4 in
+    let far = each_belongs act a.figures (λ j. Conflict a i.act j.act → i.end ≤ j.begin) (number + 1) is timed.1 acts.1 lengths.1 apart.0 timed.4 in
+    let across = all_weaker (λ (x : Timed). (x.instr ≡ number) × BelongsTo act i x) (λ x. AllByRecursion (ComesBefore a act x) timed.1) timed.0
+    (λ x here. all_weaker (λ (y : Timed). IsOfLater a act i (number + 1) y) (ComesBefore a act x) timed.1
+    (λ y there. comes_before a act number i x y here.0 here.1 there) far)
+    (own_belong act a.figures number i timed.0 acts.0 lengths.0 timed.3) in
+    subst (EachLater (ComesBefore a act)) (sym timed.2) (later_append (ComesBefore a act) timed.0 timed.1 own rest across)
