@@ -5,3 +5,6 @@ pub mod Transfer
 pub mod Later
 pub mod Reordering
 pub mod Timing
+pub mod AllowedOrders
+pub mod NamedOrder
+pub mod Durations

@@ -11,18 +11,18 @@ IsReordering {A} may (x ∷ xs) order =
     (before : List A) × (behind : List A) × (order ≡ before ++ x ∷ behind) × AllByRecursion (may x) before
     × IsReordering may xs (before ++ behind)
 
+-- the state that all of them leave, one after another
+abbrev pub end_of : {S A : Type 0} → (S → A → S) → S → List A → S
+end_of next s [] = s
+end_of next s (x ∷ xs) = end_of next (next s x) xs
+
 module _ {S A : Type 0} (ok : S → A → Type 0) (next : S → A → S) where
   -- each element is fine in the state that those before it leave
   abbrev pub Runs : S → List A → Type 0
   Runs s [] = Unit {0}
   Runs s (x ∷ xs) = ok s x × Runs (next s x) xs
 
-  -- the state that all of them leave
-  abbrev pub end_of : S → List A → S
-  end_of s [] = s
-  end_of s (x ∷ xs) = end_of (next s x) xs
-
-  pub Runs-append : (s : S) (xs ys : List A) → Runs s xs → Runs (end_of s xs) ys → Runs s (xs ++ ys)
+  pub Runs-append : (s : S) (xs ys : List A) → Runs s xs → Runs (end_of next s xs) ys → Runs s (xs ++ ys)
   Runs-append s [] ys first second = second
   Runs-append s (x ∷ xs) ys first second = (first.0, Runs-append (next s x) xs ys first.1 second)
 
@@ -32,21 +32,21 @@ module _ {S A : Type 0} (ok : S → A → Type 0) (next : S → A → S) (may : 
         ok s y × ok (next s y) x × (next (next s y) x ≡ next (next s x) y)) where
   -- so the first of a run may go behind those that it may change places with
   moved : (s : S) (x : A) (before behind : List A) → ok s x → Runs ok next (next s x) (before ++ behind) → AllByRecursion (may x) before →
-      Runs ok next s (before ++ x ∷ behind) × (end_of ok next s (before ++ x ∷ behind) ≡ end_of ok next (next s x) (before ++ behind))
+      Runs ok next s (before ++ x ∷ behind) × (end_of next s (before ++ x ∷ behind) ≡ end_of next (next s x) (before ++ behind))
   moved s x [] behind here run free = ((here, run), refl)
   moved s x (y ∷ ys) behind here run free =
       let both = exchange s x y free.0 here run.0 in
       let later = subst (λ (t : S). Runs ok next t (ys ++ behind)) (sym both.2) run.1 in
       let rest = moved (next s y) x ys behind both.1 later free.1 in
-      ((both.0, rest.0), rest.1 ∙ ap (λ (t : S). end_of ok next t (ys ++ behind)) both.2)
+      ((both.0, rest.0), rest.1 ∙ ap (λ (t : S). end_of next t (ys ++ behind)) both.2)
 
   pub reordered : (xs order : List A) (s : S) → IsReordering may xs order → Runs ok next s xs →
-      Runs ok next s order × (end_of ok next s order ≡ end_of ok next s xs)
-  reordered [] order s same run = subst (λ (zs : List A). Runs ok next s zs × (end_of ok next s zs ≡ s)) (sym same) (tt, refl)
+      Runs ok next s order × (end_of next s order ≡ end_of next s xs)
+  reordered [] order s same run = subst (λ (zs : List A). Runs ok next s zs × (end_of next s zs ≡ s)) (sym same) (tt, refl)
   reordered (x ∷ xs) order s same run =
       let rest = reordered xs (same.0 ++ same.1) (next s x) same.4 run.1 in
       let whole = moved s x same.0 same.1 run.0 rest.0 same.3 in
-      subst (λ (zs : List A). Runs ok next s zs × (end_of ok next s zs ≡ end_of ok next s (x ∷ xs))) (sym same.2)
+      subst (λ (zs : List A). Runs ok next s zs × (end_of next s zs ≡ end_of next s (x ∷ xs))) (sym same.2)
       (whole.0, whole.1 ∙ rest.1)
 
 module _ {A B : Type 0} (entries : A → List B) where
