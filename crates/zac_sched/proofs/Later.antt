@@ -78,3 +78,7 @@ pub later_from_all : {X : Type 0} (P : X → Type 0) (R Q : X → X → Type 0) 
 later_from_all P R Q [] both all later = tt
 later_from_all P R Q (x ∷ xs) both all later =
     (all_from_two P (R x) (Q x) xs (λ y p r. both x y all.0 p r) all.1 later.0, later_from_all P R Q xs both all.1 later.1)
+
+pub later_weaker : {X : Type 0} (R Q : X → X → Type 0) (xs : List X) → ((x y : X) → R x y → Q x y) → EachLater R xs → EachLater Q xs
+later_weaker R Q [] weaker later = tt
+later_weaker R Q (x ∷ xs) weaker later = (all_weaker (R x) (Q x) xs (weaker x) later.0, later_weaker R Q xs weaker later.1)

@@ -8,3 +8,5 @@ pub mod Timing
 pub mod AllowedOrders
 pub mod NamedOrder
 pub mod Durations
+pub mod TidyRuns
+pub mod TidyPrograms
