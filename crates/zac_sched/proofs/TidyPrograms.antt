@@ -12,7 +12,7 @@ use Rattle.zair_form.specs.declared.program.Instr.{Instr}
 use Rattle.zair_form.specs.declared.step.Step.{Step}
 use Rattle.zair_form.specs.Steps.{homes}
 use Rattle.zair_form.specs.Times.{Timed, HasLength}
-use Rattle.zair_state.specs.Orders.{IsAllowed}
+use Rattle.zair_state.specs.Orders.{IsAllowed, IsNamedOrder}
 use Rattle.zair_state.specs.Performs.{EachPulseFindsItsPairs, IsSafeOrder, Performs, listed_steps, steps_in}
 use Rattle.zair_state.specs.Resources.{AreApart, Conflict, Uses}
 use Rattle.zair_state.specs.Resources.{Resource as resource}
@@ -73,7 +73,7 @@ one_silent a x y es fs (inl e) second free = inl e
 one_silent a x y es fs (inr lit) (inl e) free = inr e
 one_silent a x y es fs (inr lit) (inr other) free = absurd (free (resource.Laser, lit, other))
 
-pub does_the_same : (a : Architecture) → StepsChangePlaces a → (program : List Instr) (s : State) → AllByRecursion (HasLength a.figures) program →
+does_the_same : (a : Architecture) → StepsChangePlaces a → (program : List Instr) (s : State) → AllByRecursion (HasLength a.figures) program →
     AreApart a program → AreTidy a s program → (order : List Timed) → IsAllowed a.figures program order → DoesTheSame a s program (steps_in order)
 does_the_same a exchange program s lengths apart tidy order allowed =
     let act : ℕ → Act = act_at program in
@@ -104,6 +104,46 @@ orders_agree a exchange c program tidy order allowed =
     let same = does_the_same a exchange program (opening a (homes program)) lengths tidy.apart tidy.tidy order allowed in
     (same.log, same.end)
 
-pub tidy_performs : (a : Architecture) → StepsChangePlaces a → PulsesFindTheirPairs → HasFigureRanges a.figures →
-    (c : NativeCircuit) (program : List Instr) → IsTidyProgram a c program → Performs a c program
-tidy_performs a exchange pairs ranges c program tidy = ?
+module _ (a : Architecture) (exchange : StepsChangePlaces a) (pairs : PulsesFindTheirPairs) (c : NativeCircuit) (program : List Instr)
+    (tidy : IsTidyProgram a c program) where
+  safe_where_same : (steps : List Step) → DoesTheSame a (opening a (homes program)) program steps → IsSafeOrder a c program steps
+  safe_where_same steps same = record {
+    legal = same.legal;
+    pairs = pairs a (opening a (homes program)) steps same.legal;
+    realises = subst (Realises c.ops) (sym same.log) tidy.realises;
+  }
+
+  safe_in_list_order : IsSafeOrder a c program (listed_steps program)
+  safe_in_list_order =
+      let start : State = opening a (homes program) in
+      let timed = timed_steps_of a.figures 0 program (recursion_from_All (HasLength a.figures) program tidy.lengths) in
+      let run = tidy_run a (act_at program) 0 program timed.0 start (are_acts program) timed.1 tidy.tidy in
+      let legal = subst (IsLegalRun a start) (all_listed a.figures 0 program timed.0 timed.1)
+      (legal_in a (act_at program) start timed.0 run) in
+      safe_where_same (listed_steps program) (record { legal = legal; log = refl; end = refl })
+
+  safe_in_order : (order : List Timed) → IsAllowed a.figures program order → IsSafeOrder a c program (steps_in order)
+  safe_in_order order allowed =
+      safe_where_same (steps_in order) (does_the_same a exchange program (opening a (homes program))
+      (recursion_from_All (HasLength a.figures) program tidy.lengths) tidy.apart tidy.tidy order allowed)
+
+  named_order : HasFigureRanges a.figures → (order : List Timed) × IsAllowed a.figures program order × IsNamedOrder a.figures program order
+  named_order ranges =
+      let lengths = recursion_from_All (HasLength a.figures) program tidy.lengths in
+      let timed = timed_steps_of a.figures 0 program lengths in
+      let comes = each_comes_before a (act_at program) 0 program timed.0 (are_acts program) lengths
+      (later_from_AllPairs (λ (i j : Instr). Conflict a i.act j.act → i.end ≤ j.begin) program tidy.apart) timed.1 in
+      let listed = later_weaker (ComesBefore a (act_at program)) IsListedBefore timed.0 (λ x y comes. comes.listed) comes in
+      named_and_allowed a.figures program timed.0 timed.1 listed
+      (each_takes_time a.figures ranges 0 program timed.0 timed.1 tidy.moves)
+
+  pub tidy_performs : HasFigureRanges a.figures → Performs a c program
+  tidy_performs ranges = record {
+    form = tidy.form;
+    homes = tidy.homes;
+    lengths = tidy.lengths;
+    listed = safe_in_list_order;
+    orders = safe_in_order;
+    named = named_order ranges;
+    apart = tidy.apart;
+  }
