@@ -29,7 +29,7 @@ module _ {S A : Type 0} (ok : S → A → Type 0) (next : S → A → S) where
 -- two elements that may change places, run one after the other, run the other way round too, with the same end
 module _ {S A : Type 0} (ok : S → A → Type 0) (next : S → A → S) (may : A → A → Type 0)
     (exchange : (s : S) (x y : A) → may x y → ok s x → ok (next s x) y →
-        ok s y × ok (next s y) x × (next (next s y) x ≡ next (next s x) y)) where
+    ok s y × ok (next s y) x × (next (next s y) x ≡ next (next s x) y)) where
   -- so the first of a run may go behind those that it may change places with
   moved : (s : S) (x : A) (before behind : List A) → ok s x → Runs ok next (next s x) (before ++ behind) → AllByRecursion (may x) before →
       Runs ok next s (before ++ x ∷ behind) × (end_of next s (before ++ x ∷ behind) ≡ end_of next (next s x) (before ++ behind))
