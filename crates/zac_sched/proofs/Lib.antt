@@ -14,3 +14,5 @@ pub mod NamedOrder
 pub mod Durations
 pub mod TidyRuns
 pub mod TidyPrograms
+pub mod Darkness
+pub mod Exchanging
