@@ -1,6 +1,6 @@
 -- In an order that the times allow, a step has gone before others that were listed before it only if it begins before they
 -- end.
-use Rattle.std.proofs.Common.{◌≡◌, ◌<◌, List, [], ◌∷◌, ◌++◌, sym, subst}
+use Rattle.std.proofs.Common.{◌<◌, List, [], ◌∷◌, ◌++◌, sym, subst}
 use Rattle.std.specs.List.{AllByRecursion}
 use Rattle.zair_form.specs.Times.{Timed}
 use Rattle.zair_state.specs.Orders.{IsOrderOf}

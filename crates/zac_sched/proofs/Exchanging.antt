@@ -1,5 +1,5 @@
 -- Two steps of acts that don't conflict change places.
-use Rattle.std.proofs.Common.{◌≡◌, ℕ}
+use Rattle.std.proofs.Common.{◌≡◌}
 use Rattle.zac_arch.specs.Architecture.{Architecture}
 use Rattle.zair_form.specs.declared.program.Act.{Act}
 use Rattle.zair_form.specs.declared.step.Step.{Step}

@@ -1,6 +1,6 @@
 -- A tidy program performs its circuit in every order that its times allow, and all these orders do the same.
-use Rattle.std.proofs.Common.{◌≡◌, ℕ, zero, suc, ◌+◌, ◌<◌, ◌≤◌, ◌⊎◌, List, [], ◌∷◌, ◌++◌, refl, sym, ap, ◌∙◌, subst, inl, inr, arith, add-one}
-use Rattle.std.specs.List.{All, AllByRecursion}
+use Rattle.std.proofs.Common.{◌≡◌, ℕ, zero, suc, ◌+◌, ◌≤◌, ◌⊎◌, List, [], ◌∷◌, refl, sym, ap, ◌∙◌, subst, inl, inr, arith, add-one}
+use Rattle.std.specs.List.{AllByRecursion}
 use Rattle.std.proofs.lemmas.List.Elements.{recursion_from_All}
 use Rattle.zac_arch.specs.Architecture.{Architecture}
 use Rattle.zac_arch.specs.Rules.{HasFigureRanges}
@@ -17,14 +17,14 @@ use Rattle.zair_state.specs.Performs.{EachPulseFindsItsPairs, IsSafeOrder, Perfo
 use Rattle.zair_state.specs.Resources.{AreApart, Conflict, Uses}
 use Rattle.zair_state.specs.Resources.{Resource as resource}
 use Rattle.zair_state.specs.Result.{after}
-use Rattle.zair_state.specs.Run.{IsLegalRun, after_all, entries, log_of}
+use Rattle.zair_state.specs.Run.{IsLegalRun, after_all, log_of}
 use Rattle.zair_state.specs.State.{State, opening}
 use Rattle.zac_sched.specs.Exchange.{IsTidyProgram, IsTidyStep, AreTidy, OrdersAgree}
 use Rattle.zac_sched.proofs.AllowedOrders.{MayPrecede, reordering_from_allowed}
 use Rattle.zac_sched.proofs.Durations.{each_takes_time, timed_steps_of}
-use Rattle.zac_sched.proofs.Later.{EachLater, later_from_all, later_from_AllPairs, later_weaker}
+use Rattle.zac_sched.proofs.Later.{later_from_all, later_from_AllPairs, later_weaker}
 use Rattle.zac_sched.proofs.NamedOrder.{named_and_allowed}
-use Rattle.zac_sched.proofs.Reordering.{IsReordering, OneIsSilent, end_of, reordered, same_entries}
+use Rattle.zac_sched.proofs.Reordering.{OneIsSilent, reordered, same_entries}
 use Rattle.zac_sched.proofs.TidyRuns.{IsTidyAt, after_timed, all_listed, each_silent_or_lit, end_in, entries_of, legal_in, log_in, tidy_run}
 use Rattle.zac_sched.proofs.Timing.{AreActs, ComesBefore, IsListedBefore, each_comes_before}
 

@@ -1,5 +1,5 @@
 -- The timed steps of a program: to which instruction each belongs, and how the times of two of them lie.
-use Rattle.std.proofs.Common.{◌≡◌, ℕ, ◌+◌, ◌<◌, ◌≤◌, ◌⊎◌, List, [], ◌∷◌, ◌++◌, length, refl, sym, ap, ◌∙◌, subst, inl, inr, arith}
+use Rattle.std.proofs.Common.{◌≡◌, ℕ, ◌+◌, ◌<◌, ◌≤◌, ◌⊎◌, List, [], ◌∷◌, ◌++◌, length, sym, ap, ◌∙◌, subst, inl, inr, arith}
 use Rattle.std.specs.List.{AllByRecursion}
 use Rattle.std.proofs.lemmas.List.{length_push}
 use Rattle.zac_arch.specs.Architecture.{Architecture}
@@ -10,9 +10,9 @@ use Rattle.zair_form.specs.declared.program.Instr.{Instr}
 use Rattle.zair_form.specs.declared.step.Step.{Step}
 use Rattle.zair_form.specs.declared.step.Step.TheVariants.{Activate, Move, Deactivate, One, Pulse, Readout}
 use Rattle.zair_form.specs.Steps.{steps_of}
-use Rattle.zair_form.specs.Times.{Timed, IsTimed, AreTimed, AreTimedSteps, HasLength, Lasts, LastTogether}
+use Rattle.zair_form.specs.Times.{Timed, AreTimed, AreTimedSteps, HasLength, Lasts, LastTogether}
 use Rattle.zair_state.specs.Resources.{Conflict}
-use Rattle.zac_sched.proofs.Later.{EachLater, all_append, all_weaker, all_from_two, later_append, later_from_all}
+use Rattle.zac_sched.proofs.Later.{EachLater, all_append, all_weaker, later_append, later_from_all}
 
 -- two least times are one
 move_time_same : (accel dx dy t u : ℕ) → IsMoveTime accel dx dy t → IsMoveTime accel dx dy u → t ≡ u

@@ -1,15 +1,12 @@
 -- A tidy step is tidy in every state that shows its act the same.
-use Rattle.std.proofs.Common.{◌≡◌, ◌≢◌, ℕ, ◌+◌, ◌<◌, ◌≤◌, ◌⊎◌, inl, inr, true, false, ◌==◌, List, [], ◌∷◌, length, map, get_or, set, get_or-set_same, eqb-true, refl, sym, ap, ◌∙◌, subst, arith}
-use Rattle.std.specs.List.{All, Any, Contains, list_all}
+use Rattle.std.proofs.Common.{◌≡◌, ◌≢◌, ℕ, ◌<◌, inl, inr, true, List, [], ◌∷◌, length, get_or, set, get_or-set_same, eqb-true, refl, sym, ap, ◌∙◌, subst}
+use Rattle.std.specs.List.{All, Contains, list_all}
 use Rattle.std.proofs.lemmas.Bool.{cases_eq}
 use Rattle.std.proofs.lemmas.List.Elements.{All-contains}
 use Rattle.std.proofs.lemmas.List.Sums.{AllPass-from_list_all}
-use Rattle.zac_arch.specs.Architecture.{Architecture, StandsAt, trap_points}
-use Rattle.zac_arch.specs.Distances.{IsFarther}
-use Rattle.zac_arch.specs.Parking.{IsCorner}
+use Rattle.zac_arch.specs.Architecture.{Architecture, StandsAt}
 use Rattle.zac_arch.specs.declared.place.Point.{Point}
-use Rattle.zac_arch.specs.declared.place.TrapId.{TrapId}
-use Rattle.zair_form.specs.Steps.{has_own_steps, is_step_of, steps_of}
+use Rattle.zair_form.specs.Steps.{is_step_of}
 use Rattle.zair_form.specs.declared.program.Act.{Act}
 use Rattle.zair_form.specs.declared.program.Act.TheVariants.{Init, Gates, Rydberg, Job, Readout}
 use Rattle.zair_form.specs.declared.step.Beam.{Beam}
@@ -21,16 +18,16 @@ use Rattle.zair_form.specs.declared.step.ReadOf.{ReadOf}
 use Rattle.zair_form.specs.declared.step.Step.{Step}
 use Rattle.zair_form.specs.declared.step.Step.TheVariants.{Activate, Move, Deactivate, One, Pulse}
 use Rattle.zair_form.specs.declared.step.Step.TheVariants as kind
-use Rattle.zair_state.specs.Legal.{AreFresh, AreOnce, CarriesOverEmptyTrap, Drops, IsLegal, IsLegalActivate, IsLegalDeactivate, IsLegalMove, IsLegalPulse, ListsActive, ListsPairsInRange, Picks, Rests}
+use Rattle.zair_state.specs.Legal.{AreFresh, CarriesOverEmptyTrap, Drops, IsLegalActivate, IsLegalDeactivate, IsLegalMove, IsLegalPulse, ListsActive, Picks, Rests}
 use Rattle.zair_state.specs.Resources.{Carries, Uses}
 use Rattle.zair_state.specs.Resources.{Resource as resource}
-use Rattle.zair_state.specs.Result.{after, with_beams, without_beams}
-use Rattle.zair_state.specs.State.{State, Beams, idle, beams_of, crossing, AreInRange, EachCrossing, HasId, IsAt, IsClear, IsFreeOfOthers, RestsLit}
-use Rattle.zair_state.specs.declared.place.Place.TheVariants.{Trap, Held}
+use Rattle.zair_state.specs.Result.{with_beams, without_beams}
+use Rattle.zair_state.specs.State.{State, Beams, idle, beams_of, crossing, AreInRange, EachCrossing, HasId, IsClear, RestsLit}
+use Rattle.zair_state.specs.declared.place.Place.TheVariants.{Trap}
 use Rattle.zair_state.proofs.Changing.{not_farther_there}
 use Rattle.zair_state.proofs.Membership.{all_from_contains, any_from_contained, contained_in_map, contains_cases, contains_none}
-use Rattle.zac_sched.specs.Exchange.{IsAtTrapsOf, IsTidyStep, KeepsToItsTraps}
-use Rattle.zac_sched.proofs.Surroundings.{CardLaws, IsPulse, Shows}
+use Rattle.zac_sched.specs.Exchange.{IsAtTrapsOf, IsTidyStep}
+use Rattle.zac_sched.proofs.Surroundings.{CardLaws, Shows}
 
 same_point : (p q : Point) → p.x ≡ q.x → p.y ≡ q.y → p ≡ q
 same_point p q ex ey = ap (λ u. let r : Point = record { x = u; y = p.y } in r) ex ∙ ap (λ v. let r : Point = record { x = q.x; y = v } in r) ey
