@@ -6,5 +6,13 @@ pub mod Carrying
 pub mod Unmoved
 pub mod Commuting
 pub mod Transfer
+pub mod Later
+pub mod Reordering
+pub mod Timing
+pub mod AllowedOrders
+pub mod NamedOrder
+pub mod Durations
+pub mod TidyRuns
+pub mod TidyPrograms
 pub mod Darkness
 pub mod Exchanging

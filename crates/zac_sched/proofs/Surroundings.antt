@@ -1,5 +1,5 @@
 -- What the steps of an act see of a state. Where two states show an act the same, its steps are legal in both or in neither.
-use Rattle.std.proofs.Common.{◌≡◌, ◌≢◌, ℕ, ◌<◌, ◌≤◌, List, length}
+use Rattle.std.proofs.Common.{◌≡◌, ◌≢◌, ℕ, ◌<◌, ◌≤◌, length}
 use Rattle.zac_arch.specs.Architecture.{Architecture, IsLit, StandsAt, storage_count, trap_count}
 use Rattle.zac_arch.specs.Distances.{IsFarther}
 use Rattle.zac_arch.specs.Parking.{IsCorner, IsParkedBeside}

@@ -12,6 +12,7 @@ ghost use Rattle.zair_state.specs.Result.{after};
 ghost use Rattle.zair_state.specs.State.{State};
 
 use zac_arch::{Card, laws_of_parking, laws_of_traps};
+use zair_state::pulses_find_their_pairs;
 
 /// A law: two steps of instructions that don't conflict may change places. If the one is legal and then the other, and each
 /// keeps to its traps, then it is so the other way round too, and both ways end in the same state.
@@ -34,4 +35,5 @@ pub fn tidy_programs_perform(card: &Card)
 {
     let _rules = card.figures();
     steps_change_places(card);
+    pulses_find_their_pairs();
 }

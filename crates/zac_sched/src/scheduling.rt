@@ -19,7 +19,12 @@ use zair_form::Program;
 /// one that uses something that it uses too (the laser, an AOD, a qubit, a trap), else at 0, and takes as long as its steps, in
 /// nanoseconds. So no resource serves two instructions at once. The call takes time in proportion to the resources that the
 /// instructions name.
-pub fn schedule(alloc: Global, card: &Card, homes: List<TrapId>, todo: List<Todo<'_>>) -> Result<Program, Memory>
+pub fn schedule(
+    alloc: Global,
+    card: &Card,
+    homes: List<TrapId>,
+    todo: List<Todo<'_>>,
+) -> Result<Program, Memory>
     requires cards { All (IsOfCard card.now) todo }
     requires qubits { All (NamesQubitsBelow (length homes)) todo }
     requires few { length todo ≤ 2000000 }
