@@ -8,6 +8,7 @@ use Rattle.zair_form.specs.declared.program.Instr.{Instr}
 use Rattle.qasm_expand.specs.Expansion.{IsWithinLimits, IsExpansion}
 use Rattle.qasm_names.specs.Accepted.{Program}
 use Rattle.zac_plan.specs.Plan.{IsPlanned}
+use Rattle.zac_sched.specs.Exchange.{OrdersAgree}
 use Rattle.zac_flow.specs.Inputs.{Gives, AreShort, IsCardOf}
 use Rattle.zac_flow.specs.Source.{IsAccepted}
 use Rattle.zac_flow.specs.Words.{Command}
@@ -28,13 +29,14 @@ pub record IsCircuitOf (i : Inputs) (a : Architecture) (circuit : NativeCircuit)
 
 -- They have a circuit, its qubits are at most the storage traps of the card, and the program performs it there and does a
 -- plan of it: between two pulses as many gates as can be stay at their sites, and the other atoms are placed at the least
--- cost.
+-- cost. All orders that its times allow do the same.
 pub record CompilesTo (i : Inputs) (program : List Instr) : Type 0 where
   pub card : Architecture
   pub circuit : NativeCircuit
   pub is : IsCircuitOf i card circuit
   pub fits : circuit.qubits ≤ storage_count card
   pub performs : Performs card circuit program
+  pub agree : OrdersAgree card program
   pub planned : IsPlanned card circuit program
 
 -- What the command may be given compiles to this program.

@@ -105,7 +105,7 @@ fn answer<S: Shelf, K: Sink, E: Sink>(
 /// or a file's name, or `make N K`, N from 2 to 4,096 and K to 50,000 in decimal digits.
 ///
 /// `Done`: of `compile`, `out` gained the text of one program that performs the source on the card, in every order that
-/// its times allow, and of no other writable list of instructions. Between any two pulses the program keeps as many gates
+/// its times allow, all of which do the same, and of no other writable list of instructions. Between any two pulses the program keeps as many gates
 /// at their sites as can be kept, and all other atoms go to storage and to the sites with the least sum of distances. Of
 /// `make`, `out` gained the source that the generator makes.
 /// `Usage` comes exactly where the words are no command. `ReadFault` comes only where a call on the shelf failed, `TooLong`

@@ -4,7 +4,8 @@ ghost use Rattle.std.specs.Prelude.{◌≡◌, ◌<◌, ◌≤◌, ◌⊎◌, Er
 ghost use Rattle.zac_arch.specs.Architecture.{storage_count};
 ghost use Rattle.zac_archfile.specs.declared.fault.CardFault.{CardFault};
 ghost use Rattle.zac_io.specs.Outside.{Appends, AppendsPrefix};
-ghost use Rattle.zac_plan.specs.Plan.{IsPlanned};
+ghost use Rattle.zac_plan.specs.Plan.{IsPlanned, pairs_in};
+ghost use Rattle.zac_sched.specs.Exchange.{OrdersAgree};
 ghost use Rattle.zair_state.specs.Performs.{Performs};
 ghost use Rattle.zair_text.specs.Lines.{program_text, program_lines};
 ghost use Rattle.zair_text.specs.Ranges.{AreWritable};
@@ -60,6 +61,7 @@ fn circuit_from(alloc: Global, card: &Card, inputs: &Inputs) -> Result<Circuit, 
     requires card { IsCardOf inputs.now.card card.now }
     ensures ok { IfOk result (IsCircuitOf inputs.now card.now) }
     ensures few { IfOk result (λ circuit. length circuit.ops ≤ 786432) }
+    ensures few_pairs { IfOk result (λ circuit. pairs_in circuit.ops ≤ 262144) }
     ensures fault { IfErr result (IsFaultOrWant inputs.now) }
 {
     let scope = read_source(alloc, inputs.source.as_slice())?;
@@ -72,8 +74,10 @@ fn circuit_from(alloc: Global, card: &Card, inputs: &Inputs) -> Result<Circuit, 
 
 /// The program of a circuit on a card.
 fn plan_from(alloc: Global, card: &Card, circuit: &Circuit) -> Result<Program, Fault>
-    requires { length circuit.now.ops ≤ 786432 }
+    requires few { length circuit.now.ops ≤ 786432 }
+    requires few_pairs { pairs_in circuit.now.ops ≤ 262144 }
     ensures ok { IfOk result (Performs card.now circuit.now) }
+    ensures agree { IfOk result (OrdersAgree card.now) }
     ensures planned { IfOk result (IsPlanned card.now circuit.now) }
     ensures fits { OnOk result (circuit.now.qubits ≤ storage_count card.now) }
     ensures fault { IfErr result (λ f. (f ≡ Fault.Memory) ⊎ ((f ≡ Fault.Qubits circuit.now.qubits (storage_count card.now))
