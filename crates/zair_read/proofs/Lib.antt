@@ -1,0 +1,4 @@
+pub mod Arrays
+pub mod Sound
+pub mod Complete
+pub mod Lines
