@@ -1,4 +1,5 @@
 pub mod Arrays
 pub mod Sound
 pub mod Complete
+pub mod Answering
 pub mod Lines
