@@ -2,3 +2,6 @@ pub mod Arrays
 pub mod Sound
 pub mod Complete
 pub mod Lines
+pub mod Telling
+pub mod Walk
+pub mod Answered

@@ -4,7 +4,7 @@ ghost use Rattle.std.specs.Prelude.{◌≡◌};
 
 use std::alloc::{AllocError, AllocFailed};
 use thiserror::Error;
-use zac_gates::Memory;
+use zac_memory::Memory;
 
 /// Why a line is not read.
 #[derive(Clone, Copy, Debug, PartialEq, Eq, Error)]

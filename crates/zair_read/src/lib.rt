@@ -17,4 +17,4 @@ pub use fault::{ProgramFault, TextFault};
 pub use laws::{program_or_one_fault, written_reads_back};
 pub use line::read_line;
 pub use program::read_program;
-pub use zac_gates::Memory;
+pub use zac_memory::Memory;

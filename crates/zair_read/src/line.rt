@@ -13,7 +13,7 @@ use crate::fault::TextFault;
 use crate::instr::instr_in;
 use serde_json::Value;
 use std::alloc::Global;
-use zac_gates::Memory;
+use zac_memory::Memory;
 use zair_form::Instr;
 use zair_text::Totals;
 
