@@ -58,7 +58,7 @@ module _ (line bytes : List ℕ) (is : List Instr) (ended : line ≡ bytes ++ 10
   pub untallied : (t : Totals) → IsTextOf (end_value t) bytes → (IsTallied is t → ⊥) → RightNext line is → ⊥
   untallied t h never (an_instr j k start) = no_end j t (one_value (instr_value j) (end_value t) bytes (instr_text j k).text h)
   untallied t h never (the_end program end) =
-      no (program, totals_same (totals_of is) t (one_value (end_value (totals_of is)) (end_value t) bytes (text_of (end_value (totals_of is)) end) h))
+      never (program, totals_same (totals_of is) t (one_value (end_value (totals_of is)) (end_value t) bytes (text_of (end_value (totals_of is)) end) h))
 
   -- what is neither
   pub unknown : ((i : Instr) → IsInstrText bytes i → ⊥) → ((t : Totals) → TotalsFit t → IsTextOf (end_value t) bytes → ⊥) → TotalsFit (totals_of is) → RightNext line is → ⊥
@@ -152,7 +152,7 @@ module _ (bytes rest : List ℕ) (is : List Instr) (line : ℕ) (h : IsReadTo by
       split = split_here;
       place = ap (λ n. n + 1) h.place;
       are_right = may_go_on is h.are_open;
-      wrong = λ right. no (next_right h.front new_line is h.are_open right);
+      wrong = λ right. never (next_right h.front new_line is h.are_open right);
     }
 
     -- it is an instruction's
