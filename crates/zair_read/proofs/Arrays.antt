@@ -1,12 +1,14 @@
 -- What the values of an array tell.
-use Rattle.std.proofs.Common.{◌≡◌, ◌≢◌, ℕ, zero, suc, ◌+◌, ◌<◌, List, [], ◌∷◌, ◌++◌, map, length, get_or, take, drop, Option, Some, None, option_and_then, option_map, refl, sym, ap, ◌∙◌, subst, arith}
+use Rattle.std.proofs.Common.{◌≡◌, ◌≢◌, ℕ, zero, suc, ◌+◌, ◌<◌, List, [], ◌∷◌, ◌++◌, map, length, get_or, take, drop, Option, Some, None, Result, Err, option_and_then, option_map, refl, sym, ap, ◌∙◌, subst, arith}
 use Rattle.std.proofs.lemmas.Option.{none-some, same_Some}
 use Rattle.serde_json.specs.Data.{Data, Items, no_items, item}
 use Rattle.serde_json.specs.Find.{as_array}
 use Rattle.serde_json.specs.View.{view, items_of, items_view}
 use Rattle.serde_json.specs.declared.value.Value.{Value}
 use Rattle.zair_text.proofs.Growing.{take_one_more}
-use Rattle.zair_read.specs.Told.{◌>>=◌, two_items, told_two, three_items, told_three, told_items, told_list}
+use Rattle.zair_read.specs.declared.fault.TextFault.{TextFault}
+use Rattle.zair_read.specs.declared.fault.TextFault.TheVariants.{Refused, Memory}
+use Rattle.zair_read.specs.Told.{◌>>=◌, Tells, two_items, told_two, three_items, told_three, told_items, told_list}
 
 no_two : (vs : List Value) → length vs ≢ 2 → two_items (items_view vs) ≡ None
 no_two [] h = refl
@@ -78,3 +80,9 @@ module _ {A : Type 0} (told : Data → Option A) where
   -- the list of an array's values
   pub told_array : (d : Data) (vs : List Value) (o : Option (List A)) → Some (items_view vs) ≡ as_array d → told_items told (items_view vs) ≡ o → told_list told d ≡ o
   told_array d vs o e h = ap (λ x. x >>= told_items told) (sym e) ∙ h
+
+-- an array with a value that is refused is refused
+pub list_refused : {A : Type 0} (told : Data → Option A) (d : Data) (vs : List Value) (i : ℕ) (v : Value) (xs : List A) (f : TextFault) → Some (items_view vs) ≡ as_array d → i < length vs → v ≡ get_or vs i v
+    → told_items told (items_view (take i vs)) ≡ Some xs → Tells {A = A} (Err f) (told (view v)) → Tells {A = List A} (Err f) (told_list told d)
+list_refused told d vs i v xs Refused array h e before here = told_array told d vs None array (told_refused told vs i v xs h e here before)
+list_refused told d vs i v xs Memory array h e before here = tt

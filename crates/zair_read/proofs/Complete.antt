@@ -182,7 +182,8 @@ job_told begin end aod steps h k id fits =
     let d = act_value begin end (Job aod steps) in
     let rest = member (codes "steps") (array_of (map step_value steps)) (member (codes "type") (string (codes "rearrangeJob")) no_members) in
     let times = member (codes "begin") (number_value begin) (member (codes "end") (number_value end) rest) in
-    ap (λ (o : Option ℕ). told_or (o >>= (λ n. job_rest n (times_fields times))) told_job (from_readout d)) (id_told aod id)
+    let behind : ℕ → Option (ℕ × Members) = λ n. Some (n, times) in
+    ap (λ (o : Option ℕ). told_or ((o >>= behind) >>= (λ a. job_rest a.0 (times_fields a.1))) told_job (from_readout d)) (id_told aod id)
     ∙ ap (λ o. told_or (job_rest aod o) told_job (from_readout d)) (times_told begin end rest h k)
     ∙ ap (λ o. o >>= (λ xs. Some (timed begin end (Job aod xs)))) (list_told step_value (λ s. (is_step_of aod s ≡ true) × StepFits s) (told_step aod) (step_told aod) steps fits)
 

@@ -1,6 +1,7 @@
 pub mod Arrays
 pub mod Sound
 pub mod Complete
+pub mod Answering
 pub mod Lines
 pub mod Telling
 pub mod Walk

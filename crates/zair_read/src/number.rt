@@ -55,9 +55,11 @@ pub(crate) fn values_in(value: &Value) -> Option<&[Value]>
 pub(crate) fn two_in(value: &Value) -> Option<(&Value, &Value)>
     ensures { option_map (λ p. (view p.0.now, view p.1.now)) result ≡ told_two (view value.now) }
 {
-    match values_in(value)? {
-        [a, b] => Some((a, b)),
-        _ => None,
+    let values = values_in(value)?;
+    if values.len() == 2 {
+        Some((&values[0], &values[1]))
+    } else {
+        None
     }
 }
 
@@ -65,8 +67,10 @@ pub(crate) fn two_in(value: &Value) -> Option<(&Value, &Value)>
 pub(crate) fn three_in(value: &Value) -> Option<(&Value, &Value, &Value)>
     ensures { option_map (λ p. (view p.0.now, view p.1.now, view p.2.now)) result ≡ told_three (view value.now) }
 {
-    match values_in(value)? {
-        [a, b, c] => Some((a, b, c)),
-        _ => None,
+    let values = values_in(value)?;
+    if values.len() == 3 {
+        Some((&values[0], &values[1], &values[2]))
+    } else {
+        None
     }
 }

@@ -1,10 +1,6 @@
-use Rattle.std.proofs.Common.{arith}
 use Rattle.serde_json.specs.View.{view}
 use Rattle.zair_read.proofs.Arrays.{told_no_two}
 use Rattle.zair_read.proofs.number.two_in.Goals as goal
-use Rattle.zair_read.proofs.number.two_in.Goals.{in_default-via-then-branch-lt2, in_default-via-else-branch-lt2+else-this-lt3}
 
-pub returns-in_default : goal.returns-in_default
-returns-in_default c =
-    told_no_two (view c.args.value.now) c.in_ok-values_in.field-0.now c.in_ok-values_in.ensures
-    (elim c.in_default.branch [ in_default-via-then-branch-lt2 w ↦ omega arith | in_default-via-else-branch-lt2+else-this-lt3 w ↦ omega arith ])
+pub returns-else-values-eq2 : goal.returns-else-values-eq2
+returns-else-values-eq2 c = told_no_two (view c.args.value.now) c.in_ok-values.values.now c.in_ok-values.ensures c.if-values-eq2.false
