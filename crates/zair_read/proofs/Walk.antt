@@ -1,5 +1,5 @@
 -- What a reader of lines knows, line by line.
-use Rattle.std.proofs.Common.{◌≡◌, ◌≢◌, ℕ, ◌+◌, ◌<◌, ◌≤◌, Bool, true, false, not, ◌⊎◌, List, [], ◌∷◌, ◌++◌, length, Contains, IsTrue, refl, sym, ap, ◌∙◌, subst, inl, inr, arith, append_assoc, append-nil, length-append, true≢false}
+use Rattle.std.proofs.Common.{◌≡◌, ◌≢◌, ℕ, ◌+◌, ◌<◌, ◌≤◌, Bool, true, false, not, ◌⊎◌, List, [], ◌∷◌, ◌++◌, length, Contains, Result, Ok, Err, IfOk, IfErr, IsTrue, refl, sym, ap, ◌∙◌, subst, inl, inr, arith, append_assoc, append-nil, length-append, true≢false}
 use Rattle.std.proofs.lemmas.Bool.{and_from, and_parts}
 use Rattle.std.specs.List.{list_all}
 use Rattle.serde_json.specs.Data.{Data}
@@ -212,3 +212,12 @@ module _ (bytes rest : List ℕ) (is : List Instr) (line : ℕ) (h : IsReadTo by
     pub end_cause : (t : Totals) (e : ProgramFault) → IsTextOf (end_value t) text → IsEndFault is t later (line + 1) e → IsCauseOf bytes e
     end_cause t (Line n) k fault = at_end t n k fault
     end_cause t Memory k fault = tt
+
+    -- what is answered at the line of an end
+    pub ended_well : (t : Totals) → IsTextOf (end_value t) text → (r : Result (List Instr) ProgramFault) → IfOk r (λ p. (p ≡ is) × IsTallied is t × (later ≡ [])) → IfOk r (IsProgramText bytes)
+    ended_well t k (Ok p) told = subst (IsProgramText bytes) (sym told.0) (last_line t k told.1 told.2)
+    ended_well t k (Err e) told = tt
+
+    pub ended_ill : (t : Totals) → IsTextOf (end_value t) text → (r : Result (List Instr) ProgramFault) → IfErr r (IsEndFault is t later (line + 1)) → IfErr r (IsCauseOf bytes)
+    ended_ill t k (Ok p) told = tt
+    ended_ill t k (Err e) told = end_cause t e k told
