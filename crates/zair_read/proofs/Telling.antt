@@ -1,5 +1,5 @@
 -- What a line is by the value that its text reads as.
-use Rattle.std.proofs.Common.{◌≡◌, ℕ, ◌<◌, ◌≤◌, ◌^◌, Bool, min, max, true, false, List, [], ◌∷◌, map, fold, get_or, Option, Some, None, IsUtf8, codes, refl, sym, ap, ap₂, ◌∙◌, subst, arith, true≢false}
+use Rattle.std.proofs.Common.{◌≡◌, ℕ, ◌<◌, ◌≤◌, ◌^◌, Bool, min, max, true, false, List, [], ◌∷◌, map, fold, get_or, Option, Some, None, Ok, ◌⊎◌, inl, inr, IsUtf8, codes, refl, sym, ap, ap₂, ◌∙◌, subst, arith, true≢false}
 use Rattle.std.specs.Str.{is_utf8}
 use Rattle.std.proofs.lemmas.Option.{none-some, same_Some}
 use Rattle.std.proofs.lemmas.Str.{IsUtf8-from_is_utf8, is_utf8-from_IsUtf8}
@@ -7,42 +7,31 @@ use Rattle.serde_json.specs.Data.{Data, object, Members, member}
 use Rattle.serde_json.specs.Read.{read}
 use Rattle.zair_form.specs.declared.program.Instr.{Instr}
 use Rattle.zair_text.specs.Tally.{told, totals_of}
-use Rattle.zair_text.specs.Values.{number_value, instr_value, end_value}
+use Rattle.zair_text.specs.Values.{number_value, instr_value, header_value, end_value}
 use Rattle.zair_text.specs.declared.counts.Totals.{Totals}
 use Rattle.zair_read.specs.declared.line.Kind.{Kind}
 use Rattle.zair_read.specs.declared.line.Kind.TheVariants.{End, Neither}
 use Rattle.zair_read.specs.declared.line.Kind.TheVariants as kind
-use Rattle.zair_read.specs.Told.{told_instr, told_totals}
-use Rattle.zair_read.specs.Texts.{IsTextOf, IsInstrText, AreInstrLines, TotalsFit}
+use Rattle.zair_read.specs.Told.{told_instr, told_totals, header_parts}
+use Rattle.zair_read.specs.Texts.{IsTextOf, AreInstrLines, TotalsFit}
 use Rattle.zair_read.specs.Kinds.{IsKind, IsKindIn}
-use Rattle.zair_read.proofs.Sound.{instr_sound, totals_sound}
-use Rattle.zair_read.proofs.Complete.{instr_told, totals_told}
+use Rattle.zair_read.proofs.Answering.{kind_answered}
+use Rattle.zair_read.proofs.Complete.{header_told}
+use Rattle.zair_read.proofs.Sound.{header_sound}
 
--- ---- from a value to its text
-
-no_instr : (d : Data) (bytes : List ℕ) → IsTextOf d bytes → told_instr d ≡ None → (i : Instr) → IsInstrText bytes i → ⊥
-no_instr d bytes h none i k =
-    let same : d ≡ instr_value i = same_Some d (instr_value i) (sym h.value_read ∙ k.text.value_read) in
-    none-some i (sym none ∙ ap told_instr same ∙ instr_told i k.own k.fits)
-
-no_totals : (d : Data) (bytes : List ℕ) → IsTextOf d bytes → told_totals d ≡ None → (t : Totals) → TotalsFit t → IsTextOf (end_value t) bytes → ⊥
-no_totals d bytes h none t fit k =
-    let same : d ≡ end_value t = same_Some d (end_value t) (sym h.value_read ∙ k.value_read) in
-    none-some t (sym none ∙ ap told_totals same ∙ totals_told t fit)
-
--- what the value of a text is, the text is
-pub kind_from : (d : Data) (bytes : List ℕ) → IsTextOf d bytes → (k : Kind) → IsKindIn d k → IsKind bytes k
-kind_from d bytes h (kind.Instr i) e =
-    let s = instr_sound d i e in
-    record { text = subst (λ v. IsTextOf v bytes) s.0 h; own = s.1; fits = s.2 }
-kind_from d bytes h (End t) e = subst (λ v. IsTextOf v bytes) (totals_sound d t e) h
-kind_from d bytes h Neither e = (no_instr d bytes h e.0, no_totals d bytes h e.1)
+-- ---- each text is something
 
 -- a text of no value is neither
-pub kind_unread : (bytes : List ℕ) → ((d : Data) → IsTextOf d bytes → ⊥) → IsKind bytes Neither
+kind_unread : (bytes : List ℕ) → ((d : Data) → IsTextOf d bytes → ⊥) → IsKind bytes Neither
 kind_unread bytes h = (λ i k. h (instr_value i) k.text, λ t fit k. h (end_value t) k)
 
--- ---- each value and each text is something
+value_of_read : (bytes : List ℕ) → IsUtf8 bytes → (o : Option Data) → read bytes ≡ o → ((d : Data) × IsTextOf d bytes) ⊎ ((d : Data) → IsTextOf d bytes → ⊥)
+value_of_read bytes utf8 None e = inr (λ d h. none-some d (sym e ∙ h.value_read))
+value_of_read bytes utf8 (Some d) e = inl (d, record { utf8 = utf8; value_read = e })
+
+value_of_bytes : (bytes : List ℕ) (b : Bool) → is_utf8 bytes ≡ b → ((d : Data) × IsTextOf d bytes) ⊎ ((d : Data) → IsTextOf d bytes → ⊥)
+value_of_bytes bytes false e = inr (λ d h. true≢false (sym (is_utf8-from_IsUtf8 bytes h.utf8) ∙ e))
+value_of_bytes bytes true e = value_of_read bytes (IsUtf8-from_is_utf8 bytes e) (read bytes) refl
 
 kind_of_totals : (d : Data) → told_instr d ≡ None → (o : Option Totals) → told_totals d ≡ o → (k : Kind) × IsKindIn d k
 kind_of_totals d none None e = (Neither, (none, e))
@@ -52,19 +41,26 @@ kind_of_told : (d : Data) (o : Option Instr) → told_instr d ≡ o → (k : Kin
 kind_of_told d None e = kind_of_totals d e (told_totals d) refl
 kind_of_told d (Some i) e = (kind.Instr i, e)
 
-kind_of_read : (bytes : List ℕ) → IsUtf8 bytes → (o : Option Data) → read bytes ≡ o → (k : Kind) × IsKind bytes k
-kind_of_read bytes utf8 None e = (Neither, kind_unread bytes (λ d h. none-some d (sym e ∙ h.value_read)))
-kind_of_read bytes utf8 (Some d) e =
-    let p = kind_of_told d (told_instr d) refl in
-    (p.0, kind_from d bytes (record { utf8 = utf8; value_read = e }) p.0 p.1)
-
-kind_of_bytes : (bytes : List ℕ) (b : Bool) → is_utf8 bytes ≡ b → (k : Kind) × IsKind bytes k
-kind_of_bytes bytes false e = (Neither, kind_unread bytes (λ d h. true≢false (sym (is_utf8-from_IsUtf8 bytes h.utf8) ∙ e)))
-kind_of_bytes bytes true e = kind_of_read bytes (IsUtf8-from_is_utf8 bytes e) (read bytes) refl
+kind_of_value : (bytes : List ℕ) → ((d : Data) × IsTextOf d bytes) ⊎ ((d : Data) → IsTextOf d bytes → ⊥) → (k : Kind) × IsKind bytes k
+kind_of_value bytes (inl p) = let k = kind_of_told p.0 (told_instr p.0) refl in (k.0, kind_answered bytes p.0 (Ok k.0) p.1 k.1)
+kind_of_value bytes (inr h) = (Neither, kind_unread bytes h)
 
 -- each text has a kind
 pub some_kind : (bytes : List ℕ) → (k : Kind) × IsKind bytes k
-some_kind bytes = kind_of_bytes bytes (is_utf8 bytes) refl
+some_kind bytes = kind_of_value bytes (value_of_bytes bytes (is_utf8 bytes) refl)
+
+header_of_parts : (bytes : List ℕ) (d : Data) → IsTextOf d bytes → (o : Option ℕ) → header_parts d ≡ o → IsTextOf header_value bytes ⊎ (IsTextOf header_value bytes → ⊥)
+header_of_parts bytes d h None e =
+    inr (λ k. none-some 1 (sym e ∙ ap header_parts (same_Some d header_value (sym h.value_read ∙ k.value_read)) ∙ header_told))
+header_of_parts bytes d h (Some n) e = inl (subst (λ v. IsTextOf v bytes) (header_sound d n e) h)
+
+header_of_value : (bytes : List ℕ) → ((d : Data) × IsTextOf d bytes) ⊎ ((d : Data) → IsTextOf d bytes → ⊥) → IsTextOf header_value bytes ⊎ (IsTextOf header_value bytes → ⊥)
+header_of_value bytes (inl p) = header_of_parts bytes p.0 p.1 (header_parts p.0) refl
+header_of_value bytes (inr h) = inr (h header_value)
+
+-- each text is that of the header, or not
+pub header_or_not : (bytes : List ℕ) → IsTextOf header_value bytes ⊎ (IsTextOf header_value bytes → ⊥)
+header_or_not bytes = header_of_value bytes (value_of_bytes bytes (is_utf8 bytes) refl)
 
 -- ---- the totals of instructions in range are in range
 
@@ -106,7 +102,7 @@ made ns = record {
   time = get_or ns 8 0;
 }
 
-numbers_in : Totals → List ℕ
+pub numbers_in : Totals → List ℕ
 numbers_in t = t.gates ∷ t.jobs ∷ t.kept ∷ t.moved ∷ t.pairs ∷ t.pulses ∷ t.qubits ∷ t.reads ∷ t.time ∷ []
 
 -- members of which the first ones are numbers under one key
@@ -119,8 +115,13 @@ object_same ms ns e = cc
 cons_same : (m n : ℕ) (ms ns : List ℕ) → m ≡ n → ms ≡ ns → m ∷ ms ≡ n ∷ ns
 cons_same m n ms ns e f = ap₂ (λ x xs. x ∷ xs) e f
 
-pub totals_same : (t u : Totals) → end_value t ≡ end_value u → t ≡ u
+-- totals with these numbers
+pub from_numbers : (t u : Totals) → numbers_in t ≡ numbers_in u → t ≡ u
 unfolding made numbers_in
+from_numbers t u e = ap made e
+
+pub totals_same : (t u : Totals) → end_value t ≡ end_value u → t ≡ u
+unfolding numbers_in
 totals_same t u e =
     let gates = count_same (codes "gates") t.gates u.gates _ _ (object_same _ _ e) in
     let jobs = count_same (codes "jobs") t.jobs u.jobs _ _ gates.1 in
@@ -134,4 +135,4 @@ totals_same t u e =
     let same : numbers_in t ≡ numbers_in u =
     cons_same _ _ _ _ gates.0 (cons_same _ _ _ _ jobs.0 (cons_same _ _ _ _ kept.0 (cons_same _ _ _ _ moved.0 (cons_same _ _ _ _ pairs.0
     (cons_same _ _ _ _ pulses.0 (cons_same _ _ _ _ qubits.0 (cons_same _ _ _ _ reads.0 (cons_same _ _ _ _ time.0 refl)))))))) in
-    ap made same
+    from_numbers t u same

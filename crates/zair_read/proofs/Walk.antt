@@ -21,11 +21,11 @@ use Rattle.zair_read.proofs.Telling.{totals_fit, totals_same}
 
 -- ---- what may stand behind lines that may go on
 
-may_stand_start : (is : List Instr) (i : Instr) → IsStart is → IsTrue (has_own_steps i.act) → may_stand is i ≡ true → IsStart (is ++ i ∷ [])
+pub may_stand_start : (is : List Instr) (i : Instr) → IsStart is → IsTrue (has_own_steps i.act) → may_stand is i ≡ true → IsStart (is ++ i ∷ [])
 may_stand_start [] i start own e = start_first i e
 may_stand_start (j ∷ is) i start own e = start_more j is i start (and_from (not (is_init i.act)) (has_own_steps i.act) e own)
 
-start_may_stand : (is : List Instr) (i : Instr) → IsStart (is ++ i ∷ []) → may_stand is i ≡ true
+pub start_may_stand : (is : List Instr) (i : Instr) → IsStart (is ++ i ∷ []) → may_stand is i ≡ true
 start_may_stand is i (inl e) = absurd (no_snoc is i e)
 start_may_stand [] i (inr h) = (and_parts (is_init i.act) true h).0
 start_may_stand (j ∷ is) i (inr h) =
@@ -35,16 +35,16 @@ start_may_stand (j ∷ is) i (inr h) =
 -- ---- a line that is not right behind these instructions
 
 module _ (line bytes : List ℕ) (is : List Instr) (ended : line ≡ bytes ++ 10 ∷ []) where
-  instr_line : (i : Instr) → IsInstrText bytes i → IsInstrLine line i
+  pub instr_line : (i : Instr) → IsInstrText bytes i → IsInstrLine line i
   instr_line i h = record { bytes = bytes; ended = ended; text = h }
 
-  text_of : (v : Data) → IsLineOf v line → IsTextOf v bytes
+  pub text_of : (v : Data) → IsLineOf v line → IsTextOf v bytes
   text_of v h = subst (IsTextOf v) (same_front line h.bytes bytes h.ended ended) h.text
 
   instr_text : (i : Instr) → IsInstrLine line i → IsInstrText bytes i
   instr_text i h = let P : List ℕ → Type 0 = λ s. IsInstrText s i in subst P (same_front line h.bytes bytes h.ended ended) h.text
 
-  line_of : (v : Data) → IsTextOf v bytes → IsLineOf v line
+  pub line_of : (v : Data) → IsTextOf v bytes → IsLineOf v line
   line_of v h = record { bytes = bytes; ended = ended; text = h }
 
   -- an instruction that may not stand there
