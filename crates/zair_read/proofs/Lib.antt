@@ -6,3 +6,4 @@ pub mod Lines
 pub mod Telling
 pub mod Walk
 pub mod Answered
+pub mod Written
