@@ -1,9 +1,9 @@
 -- From what the value of a text tells to what the text is.
-use Rattle.std.proofs.Common.{◌≡◌, ℕ, List, Some, None, Result, Ok, Err, IfOk, IsErrOf, sym, ap, ◌∙◌, subst}
+use Rattle.std.proofs.Common.{◌≡◌, ℕ, Bool, List, Option, Some, None, is_some, Result, Ok, Err, IfOk, IsErrOf, MatchBool, refl, sym, ap, ◌∙◌, subst}
 use Rattle.std.proofs.lemmas.Option.{none-some, same_Some}
 use Rattle.serde_json.specs.Data.{Data}
 use Rattle.zair_form.specs.declared.program.Instr.{Instr}
-use Rattle.zair_text.specs.Values.{instr_value, end_value}
+use Rattle.zair_text.specs.Values.{instr_value, header_value, end_value}
 use Rattle.zair_text.specs.declared.counts.Totals.{Totals}
 use Rattle.zac_memory.specs.declared.Memory.{Memory as NoMemory}
 use Rattle.zair_read.specs.declared.fault.TextFault.{TextFault}
@@ -13,9 +13,9 @@ use Rattle.zair_read.specs.declared.line.Kind.TheVariants.{End, Neither}
 use Rattle.zair_read.specs.declared.line.Kind.TheVariants as kind
 use Rattle.zair_read.specs.Kinds.{IsKind, IsKindIn}
 use Rattle.zair_read.specs.Texts.{IsTextOf, IsInstrText, TotalsFit}
-use Rattle.zair_read.specs.Told.{Tells, told_instr, told_totals}
-use Rattle.zair_read.proofs.Complete.{instr_told, totals_told}
-use Rattle.zair_read.proofs.Sound.{instr_sound, totals_sound}
+use Rattle.zair_read.specs.Told.{Tells, told_instr, header_parts, is_header, told_totals}
+use Rattle.zair_read.proofs.Complete.{instr_told, header_told, totals_told}
+use Rattle.zair_read.proofs.Sound.{instr_sound, header_sound, totals_sound}
 
 -- what the bytes of the value read as is that value
 one_value : (bytes : List ℕ) (d e : Data) → IsTextOf d bytes → IsTextOf e bytes → d ≡ e
@@ -42,6 +42,17 @@ pub refused : (bytes : List ℕ) (d : Data) (r : Result Instr TextFault) → IsT
 refused bytes d r h e is i k =
     let P : Result Instr TextFault → Type 0 = λ r. Tells r (told_instr d) in
     no_instr_from bytes d h (subst P is e) i k
+
+-- ---- the first line
+
+header_tested : (bytes : List ℕ) (d : Data) (o : Option ℕ) → IsTextOf d bytes → header_parts d ≡ o → MatchBool (is_some o) (IsTextOf header_value bytes) (¬ IsTextOf header_value bytes)
+header_tested bytes d (Some n) h e = subst (λ v. IsTextOf v bytes) (header_sound d n e) h
+header_tested bytes d None h e = λ k. none-some 1 (sym e ∙ ap header_parts (one_value bytes d header_value h k) ∙ header_told)
+
+-- the test of the value is that of the text
+pub header_answered : (bytes : List ℕ) (d : Data) (b : Bool) → IsTextOf d bytes → b ≡ is_header d → MatchBool b (IsTextOf header_value bytes) (¬ IsTextOf header_value bytes)
+header_answered bytes d b h e =
+    subst (λ c. MatchBool c (IsTextOf header_value bytes) (¬ IsTextOf header_value bytes)) (sym e) (header_tested bytes d (header_parts d) h refl)
 
 -- ---- kinds of lines
 
