@@ -1,5 +1,5 @@
 -- Each text is that of a program, or has a first wrong line.
-use Rattle.std.proofs.Common.{◌≡◌, ◌≢◌, ℕ, ◌+◌, Bool, true, false, ◌⊎◌, List, [], ◌∷◌, ◌++◌, length, bytes_eq, IsTrue, refl, sym, ap, ◌∙◌, subst, inl, inr, append_assoc, append-nil, true≢false}
+use Rattle.std.proofs.Common.{◌≡◌, ◌≢◌, ℕ, ◌+◌, Bool, true, false, ◌⊎◌, List, [], ◌∷◌, ◌++◌, length, bytes_eq, refl, sym, ap, ◌∙◌, subst, inl, inr, append_assoc, append-nil, true≢false}
 use Rattle.std.proofs.lemmas.Bool.Decides.{eqb_tells}
 use Rattle.std.proofs.lemmas.Slice.Eq.{bytes_eq-Decides}
 use Rattle.zair_form.specs.Steps.{is_program}
@@ -10,8 +10,8 @@ use Rattle.zair_text.specs.declared.counts.Totals.{Totals}
 use Rattle.zair_read.specs.declared.line.Kind.{Kind}
 use Rattle.zair_read.specs.declared.line.Kind.TheVariants.{End, Neither}
 use Rattle.zair_read.specs.declared.line.Kind.TheVariants as kind
-use Rattle.zair_read.specs.Texts.{IsTextOf, IsInstrText, lines_of, IsLineOf, IsInstrLine, IsStart, IsOpen, IsWhole, AreRight, IsProgramText, IsFirstWrong, IsFirstWrongLine, IsWrongNext, TotalsFit, none_yet, may_go_on, all_told}
-use Rattle.zair_read.specs.Kinds.{IsKind, may_stand, IsTallied}
+use Rattle.zair_read.specs.Texts.{IsTextOf, IsInstrText, IsLineOf, IsStart, IsOpen, IsWhole, IsFirstWrongLine, IsWrongNext, TotalsFit, none_yet, may_go_on, all_told}
+use Rattle.zair_read.specs.Kinds.{IsKind, may_stand}
 use Rattle.zair_read.proofs.Lines.{no_snoc, nothing_whole, open_not_whole, behind_whole, first_right, header_right, instr_right, end_right, RightNext, an_instr, the_end, next_right}
 use Rattle.zair_read.proofs.Telling.{some_kind, header_or_not, totals_fit, numbers_in, from_numbers}
 use Rattle.zair_read.proofs.Walk.{may_stand_start, instr_line, text_of, line_of, misplaced, untallied, unknown}
@@ -100,14 +100,17 @@ next line is start fit (inr h) = inr (λ right. never_cut line is h right)
 
 behind_all : (lines : List (List ℕ)) (rest : List (List ℕ)) (is : List Instr) → IsWhole lines is → Answer (lines ++ rest)
 behind_all lines [] is h = inl (is, subst (λ ls. IsWhole ls is) (sym (append-nil lines)) h)
-behind_all lines (l ∷ rest) is h = inr (length lines + 1, record {
-  right = lines;
-  rest = l ∷ rest;
-  split = refl;
-  place = refl;
-  are_right = all_told is h;
-  wrong = behind_whole lines l is h;
-})
+behind_all lines (l ∷ rest) is h = inr (
+  length lines + 1,
+  record {
+    right = lines;
+    rest = l ∷ rest;
+    split = refl;
+    place = refl;
+    are_right = all_told is h;
+    wrong = behind_whole lines l is h;
+  },
+)
 
 along : (lines : List (List ℕ)) (l : List ℕ) (rest : List (List ℕ)) → Answer ((lines ++ l ∷ []) ++ rest) → Answer (lines ++ l ∷ rest)
 along lines l rest a = subst Answer (append_assoc lines (l ∷ []) rest) a
@@ -116,24 +119,30 @@ by_next : (lines : List (List ℕ)) (l : List ℕ) (rest : List (List ℕ)) (is 
     → ((ls : List (List ℕ)) (js : List Instr) → IsOpen ls js → Answer (ls ++ rest)) → RightNext l is ⊎ (RightNext l is → ⊥) → Answer (lines ++ l ∷ rest)
 by_next lines l rest is h on (inl (an_instr i line start)) = along lines l rest (on (lines ++ l ∷ []) (is ++ i ∷ []) (instr_right lines l is i h line start))
 by_next lines l rest is h on (inl (the_end program end)) = along lines l rest (behind_all (lines ++ l ∷ []) rest is (end_right lines l is h program end))
-by_next lines l rest is h on (inr none) = inr (length lines + 1, record {
-  right = lines;
-  rest = l ∷ rest;
-  split = refl;
-  place = refl;
-  are_right = may_go_on is h;
-  wrong = λ right. none (next_right lines l is h right);
-})
+by_next lines l rest is h on (inr none) = inr (
+  length lines + 1,
+  record {
+    right = lines;
+    rest = l ∷ rest;
+    split = refl;
+    place = refl;
+    are_right = may_go_on is h;
+    wrong = λ right. none (next_right lines l is h right);
+  },
+)
 
 behind_open : (rest lines : List (List ℕ)) (is : List Instr) → IsOpen lines is → Answer (lines ++ rest)
-behind_open [] lines is h = inr (length lines + 1, record {
-  right = lines;
-  rest = [];
-  split = refl;
-  place = refl;
-  are_right = may_go_on is h;
-  wrong = open_not_whole lines is h;
-})
+behind_open [] lines is h = inr (
+  length lines + 1,
+  record {
+    right = lines;
+    rest = [];
+    split = refl;
+    place = refl;
+    are_right = may_go_on is h;
+    wrong = open_not_whole lines is h;
+  },
+)
 behind_open (l ∷ rest) lines is h = by_next lines l rest is h (behind_open rest) (next l is h.start (totals_fit h.later is h.instr_lines) (cut l))
 
 wrong_first : (lines : List (List ℕ)) → IsWrongNext [] lines → Answer lines

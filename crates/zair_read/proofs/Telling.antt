@@ -1,5 +1,5 @@
 -- What a line is by the value that its text reads as.
-use Rattle.std.proofs.Common.{◌≡◌, ℕ, ◌<◌, ◌≤◌, ◌^◌, Bool, min, max, true, false, List, [], ◌∷◌, map, fold, get_or, Option, Some, None, Ok, ◌⊎◌, inl, inr, IsUtf8, codes, refl, sym, ap, ap₂, ◌∙◌, subst, arith, true≢false}
+use Rattle.std.proofs.Common.{◌≡◌, ℕ, ◌<◌, ◌≤◌, ◌^◌, Bool, max, true, false, List, [], ◌∷◌, map, fold, get_or, Option, Some, None, Ok, ◌⊎◌, inl, inr, IsUtf8, codes, refl, sym, ap, ap₂, ◌∙◌, subst, arith, true≢false}
 use Rattle.std.specs.Str.{is_utf8}
 use Rattle.std.proofs.lemmas.Option.{none-some, same_Some}
 use Rattle.std.proofs.lemmas.Str.{IsUtf8-from_is_utf8, is_utf8-from_IsUtf8}

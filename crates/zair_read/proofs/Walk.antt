@@ -1,22 +1,20 @@
 -- What a reader of lines knows, line by line.
-use Rattle.std.proofs.Common.{◌≡◌, ◌≢◌, ℕ, ◌+◌, ◌<◌, ◌≤◌, Bool, true, false, not, ◌⊎◌, List, [], ◌∷◌, ◌++◌, length, Contains, Result, Ok, Err, IfOk, IfErr, IsTrue, refl, sym, ap, ◌∙◌, subst, inl, inr, arith, append_assoc, append-nil, length-append, true≢false}
+use Rattle.std.proofs.Common.{◌≡◌, ◌≢◌, ℕ, ◌+◌, ◌≤◌, true, false, not, ◌⊎◌, List, [], ◌∷◌, ◌++◌, length, Contains, Result, Ok, Err, IfOk, IfErr, IsTrue, refl, sym, ap, ◌∙◌, subst, inl, inr, arith, append_assoc, length-append, true≢false}
 use Rattle.std.proofs.lemmas.Bool.{and_from, and_parts}
 use Rattle.std.specs.List.{list_all}
 use Rattle.serde_json.specs.Data.{Data}
-use Rattle.zair_form.specs.Steps.{is_init, may_follow, is_program, has_own_steps}
+use Rattle.zair_form.specs.Steps.{is_init, may_follow, has_own_steps}
 use Rattle.zair_form.specs.declared.program.Instr.{Instr}
 use Rattle.zair_text.specs.Tally.{totals_of}
 use Rattle.zair_text.specs.Values.{instr_value, header_value, end_value}
 use Rattle.zair_text.specs.declared.counts.Totals.{Totals}
 use Rattle.zair_read.specs.declared.fault.ProgramFault.{ProgramFault}
 use Rattle.zair_read.specs.declared.fault.ProgramFault.TheVariants.{Line, Memory}
-use Rattle.zair_read.specs.declared.line.Kind.{Kind}
-use Rattle.zair_read.specs.declared.line.Kind.TheVariants.{End, Neither}
-use Rattle.zair_read.specs.declared.line.Kind.TheVariants as kind
-use Rattle.zair_read.specs.Texts.{IsTextOf, IsInstrText, lines_of, IsLineOf, IsInstrLine, IsStart, IsOpen, IsWhole, AreRight, IsProgramText, IsWrongNext, IsFirstWrongLine, IsFirstWrong, none_yet, may_go_on, all_told, TotalsFit}
+use Rattle.zair_read.specs.declared.line.Kind.TheVariants.{Neither}
+use Rattle.zair_read.specs.Texts.{IsTextOf, IsInstrText, lines_of, IsLineOf, IsInstrLine, IsStart, IsOpen, IsWhole, IsProgramText, IsWrongNext, IsFirstWrong, none_yet, may_go_on, all_told, TotalsFit}
 use Rattle.zair_read.specs.Causes.{IsCauseOf}
 use Rattle.zair_read.specs.Kinds.{IsKind, may_stand, IsTallied, IsEndFault}
-use Rattle.zair_read.proofs.Lines.{lines_cut, Uncut, no_line, one_line, uncut, some_line, all_front, one_value, one_instr, same_front, no_end, line_value, as_line, length_snoc, no_snoc, nothing_whole, open_not_whole, behind_whole, first_right, header_right, instr_right, end_right, right_feed, start_first, start_more, RightNext, an_instr, the_end, next_right}
+use Rattle.zair_read.proofs.Lines.{lines_cut, Uncut, no_line, one_line, uncut, some_line, all_front, one_value, one_instr, same_front, no_end, length_snoc, no_snoc, nothing_whole, open_not_whole, behind_whole, first_right, header_right, instr_right, end_right, right_feed, start_first, start_more, RightNext, an_instr, the_end, next_right}
 use Rattle.zair_read.proofs.Telling.{totals_fit, totals_same}
 
 -- ---- what may stand behind lines that may go on

@@ -13,8 +13,7 @@ use Rattle.serde_json.specs.View.{items_of}
 use Rattle.serde_json.specs.Written.{number_text, comma_if, compact_text, items_text, members_text}
 use Rattle.serde_json.proofs.OnLiterals.{serde_json_on_literals}
 use Rattle.zac_arch.specs.declared.place.TrapId.{TrapId}
-use Rattle.zac_gates.specs.Angle.{is_angle}
-use Rattle.zair_form.specs.Ranges.{IsId, IsPosition, IsNumber, AnglesFit, BeamFits, CaughtFits, DroppedFits, GateFits, PairFits, ReadFits, StepFits, ActFits, InstrFits, ProgramFits}
+use Rattle.zair_form.specs.Ranges.{IsId, IsNumber, BeamFits, CaughtFits, DroppedFits, GateFits, PairFits, ReadFits, StepFits, ActFits, InstrFits, ProgramFits}
 use Rattle.zair_form.specs.Steps.{is_init, may_follow, is_program, has_own_steps}
 use Rattle.zair_form.specs.declared.step.Beam.{Beam}
 use Rattle.zair_form.specs.declared.step.Caught.{Caught}
@@ -31,12 +30,12 @@ use Rattle.zair_form.specs.declared.program.Instr.{Instr}
 use Rattle.zair_text.specs.Lines.{line, instr_line, totals_line, later_lines, program_lines, joined, program_text}
 use Rattle.zair_text.specs.Ranges.{IsSmallNumber, HasSmallNumbers, ItemsHaveSmallNumbers, MembersHaveSmallNumbers}
 use Rattle.zair_text.specs.Tally.{totals_of}
-use Rattle.zair_text.specs.Values.{number_value, array_of, numbers, trap_value, beam_value, caught_value, dropped_value, pair_value, read_value, gate_value, step_value, timed_value, act_value, instr_value, header_value, end_value}
+use Rattle.zair_text.specs.Values.{number_value, trap_value, beam_value, caught_value, dropped_value, pair_value, read_value, gate_value, step_value, timed_value, act_value, instr_value, header_value, end_value}
 use Rattle.zair_text.specs.declared.counts.Totals.{Totals}
 use Rattle.zair_text.proofs.AngleText.{IsUtf8-angle}
 use Rattle.zair_text.proofs.OneLine.{compact_text_one_line}
 use Rattle.zair_text.proofs.ReadingBack.{InOrder, outline_read, value_read, instr_read}
-use Rattle.zair_read.specs.Texts.{IsTextOf, IsInstrText, lines_of, IsLineOf, IsInstrLine, AreInstrLines, IsWhole, IsProgramText, TotalsFit}
+use Rattle.zair_read.specs.Texts.{IsTextOf, IsInstrText, lines_of, AreInstrLines, IsWhole, IsProgramText, TotalsFit}
 use Rattle.zair_read.proofs.Lines.{lines_cut}
 use Rattle.zair_read.proofs.Telling.{totals_fit}
 
@@ -137,10 +136,15 @@ read_plain : (r : ReadOf) → ReadFits r → IsPlain (read_value r)
 read_plain r h = (narrow r.op h.0, (narrow r.q h.1, (narrow r.bit h.2, tt)))
 
 gate_plain : (g : OneGate) → GateFits g → IsPlain (gate_value g)
-gate_plain g h =
-    (IsUtf8-are_ascii (codes "op") refl, narrow g.op h.0,
-    (IsUtf8-are_ascii (codes "q") refl, narrow g.q h.1,
-    (IsUtf8-are_ascii (codes "u") refl, (IsUtf8-angle g.angles.theta h.2.0, (IsUtf8-angle g.angles.phi h.2.1, (IsUtf8-angle g.angles.lambda h.2.2, tt))), tt)))
+gate_plain g h = (
+  IsUtf8-are_ascii (codes "op") refl,
+  narrow g.op h.0,
+  (
+    IsUtf8-are_ascii (codes "q") refl,
+    narrow g.q h.1,
+    (IsUtf8-are_ascii (codes "u") refl, (IsUtf8-angle g.angles.theta h.2.0, (IsUtf8-angle g.angles.phi h.2.1, (IsUtf8-angle g.angles.lambda h.2.2, tt))), tt),
+  ),
+)
 
 beams_plain : (bs : List Beam) → AllByRecursion BeamFits bs → ItemsArePlain (items_of (map beam_value bs))
 beams_plain bs h = all_plain beam_value BeamFits beam_plain bs h
@@ -149,20 +153,41 @@ ids_plain : (ns : List ℕ) → AllByRecursion IsId ns → ItemsArePlain (items_
 ids_plain ns h = all_plain number_value IsId narrow_id ns h
 
 step_plain : (s : Step) → StepFits s → IsPlain (step_value s)
-step_plain (Activate aod rows columns atoms) h =
-    (IsUtf8-are_ascii (codes "atoms") refl, all_plain caught_value CaughtFits caught_plain atoms h.3,
-    (IsUtf8-are_ascii (codes "columns") refl, beams_plain columns h.2,
-    (IsUtf8-are_ascii (codes "rows") refl, beams_plain rows h.1,
-    (IsUtf8-are_ascii (codes "step") refl, IsUtf8-are_ascii (codes "activate") refl, tt))))
-step_plain (Move aod rows columns) h =
-    (IsUtf8-are_ascii (codes "columns") refl, beams_plain columns h.2,
-    (IsUtf8-are_ascii (codes "rows") refl, beams_plain rows h.1,
-    (IsUtf8-are_ascii (codes "step") refl, IsUtf8-are_ascii (codes "move") refl, tt)))
-step_plain (Deactivate aod rows columns atoms) h =
-    (IsUtf8-are_ascii (codes "atoms") refl, all_plain dropped_value DroppedFits dropped_plain atoms h.3,
-    (IsUtf8-are_ascii (codes "columns") refl, ids_plain columns h.2,
-    (IsUtf8-are_ascii (codes "rows") refl, ids_plain rows h.1,
-    (IsUtf8-are_ascii (codes "step") refl, IsUtf8-are_ascii (codes "deactivate") refl, tt))))
+step_plain (Activate aod rows columns atoms) h = (
+  IsUtf8-are_ascii (codes "atoms") refl,
+  all_plain caught_value CaughtFits caught_plain atoms h.3,
+  (
+    IsUtf8-are_ascii (codes "columns") refl,
+    beams_plain columns h.2,
+    (
+      IsUtf8-are_ascii (codes "rows") refl,
+      beams_plain rows h.1,
+      (IsUtf8-are_ascii (codes "step") refl, IsUtf8-are_ascii (codes "activate") refl, tt),
+    ),
+  ),
+)
+step_plain (Move aod rows columns) h = (
+  IsUtf8-are_ascii (codes "columns") refl,
+  beams_plain columns h.2,
+  (
+    IsUtf8-are_ascii (codes "rows") refl,
+    beams_plain rows h.1,
+    (IsUtf8-are_ascii (codes "step") refl, IsUtf8-are_ascii (codes "move") refl, tt),
+  ),
+)
+step_plain (Deactivate aod rows columns atoms) h = (
+  IsUtf8-are_ascii (codes "atoms") refl,
+  all_plain dropped_value DroppedFits dropped_plain atoms h.3,
+  (
+    IsUtf8-are_ascii (codes "columns") refl,
+    ids_plain columns h.2,
+    (
+      IsUtf8-are_ascii (codes "rows") refl,
+      ids_plain rows h.1,
+      (IsUtf8-are_ascii (codes "step") refl, IsUtf8-are_ascii (codes "deactivate") refl, tt),
+    ),
+  ),
+)
 step_plain (One gate) h = tt
 step_plain (Pulse pairs) h = tt
 step_plain (step.Readout reads) h = tt
@@ -182,12 +207,23 @@ act_plain begin end (Gates ones) b e h =
 act_plain begin end (Rydberg pairs) b e h =
     timed_plain begin end (codes "pairs") (map pair_value pairs) (codes "rydberg") b e (IsUtf8-are_ascii (codes "pairs") refl)
     (all_plain pair_value PairFits pair_plain pairs h) (IsUtf8-are_ascii (codes "rydberg") refl)
-act_plain begin end (Job aod steps) b e h =
-    (IsUtf8-are_ascii (codes "aod") refl, narrow_id aod h.0,
-    (IsUtf8-are_ascii (codes "begin") refl, b,
-    (IsUtf8-are_ascii (codes "end") refl, e,
-    (IsUtf8-are_ascii (codes "steps") refl, all_plain step_value StepFits step_plain steps h.1,
-    (IsUtf8-are_ascii (codes "type") refl, IsUtf8-are_ascii (codes "rearrangeJob") refl, tt)))))
+act_plain begin end (Job aod steps) b e h = (
+  IsUtf8-are_ascii (codes "aod") refl,
+  narrow_id aod h.0,
+  (
+    IsUtf8-are_ascii (codes "begin") refl,
+    b,
+    (
+      IsUtf8-are_ascii (codes "end") refl,
+      e,
+      (
+        IsUtf8-are_ascii (codes "steps") refl,
+        all_plain step_value StepFits step_plain steps h.1,
+        (IsUtf8-are_ascii (codes "type") refl, IsUtf8-are_ascii (codes "rearrangeJob") refl, tt),
+      ),
+    ),
+  ),
+)
 act_plain begin end (Readout reads) b e h =
     timed_plain begin end (codes "reads") (map read_value reads) (codes "readout") b e (IsUtf8-are_ascii (codes "reads") refl)
     (all_plain read_value ReadFits read_plain reads h) (IsUtf8-are_ascii (codes "readout") refl)
@@ -199,17 +235,43 @@ header_plain : IsPlain header_value
 header_plain = (IsUtf8-are_ascii (codes "type") refl, IsUtf8-are_ascii (codes "zair") refl, (IsUtf8-are_ascii (codes "version") refl, omega arith, tt))
 
 end_plain : (t : Totals) → TotalsFit t → IsPlain (end_value t)
-end_plain t h =
-    (IsUtf8-are_ascii (codes "gates") refl, narrow t.gates h.gates,
-    (IsUtf8-are_ascii (codes "jobs") refl, narrow t.jobs h.jobs,
-    (IsUtf8-are_ascii (codes "kept") refl, narrow t.kept h.kept,
-    (IsUtf8-are_ascii (codes "moved") refl, narrow t.moved h.moved,
-    (IsUtf8-are_ascii (codes "pairs") refl, narrow t.pairs h.pairs,
-    (IsUtf8-are_ascii (codes "pulses") refl, narrow t.pulses h.pulses,
-    (IsUtf8-are_ascii (codes "qubits") refl, narrow t.qubits h.qubits,
-    (IsUtf8-are_ascii (codes "reads") refl, narrow t.reads h.reads,
-    (IsUtf8-are_ascii (codes "time") refl, omega (arith, h.time),
-    (IsUtf8-are_ascii (codes "type") refl, IsUtf8-are_ascii (codes "end") refl, tt))))))))))
+end_plain t h = (
+  IsUtf8-are_ascii (codes "gates") refl,
+  narrow t.gates h.gates,
+  (
+    IsUtf8-are_ascii (codes "jobs") refl,
+    narrow t.jobs h.jobs,
+    (
+      IsUtf8-are_ascii (codes "kept") refl,
+      narrow t.kept h.kept,
+      (
+        IsUtf8-are_ascii (codes "moved") refl,
+        narrow t.moved h.moved,
+        (
+          IsUtf8-are_ascii (codes "pairs") refl,
+          narrow t.pairs h.pairs,
+          (
+            IsUtf8-are_ascii (codes "pulses") refl,
+            narrow t.pulses h.pulses,
+            (
+              IsUtf8-are_ascii (codes "qubits") refl,
+              narrow t.qubits h.qubits,
+              (
+                IsUtf8-are_ascii (codes "reads") refl,
+                narrow t.reads h.reads,
+                (
+                  IsUtf8-are_ascii (codes "time") refl,
+                  omega (arith, h.time),
+                  (IsUtf8-are_ascii (codes "type") refl, IsUtf8-are_ascii (codes "end") refl, tt),
+                ),
+              ),
+            ),
+          ),
+        ),
+      ),
+    ),
+  ),
+)
 
 -- ---- their texts read back
 

@@ -1,6 +1,5 @@
 use Rattle.std.proofs.Common.{◌+◌, subst, sym, ap, ◌∙◌}
 use Rattle.std.specs.Bool.{MatchBool}
-use Rattle.zair_form.specs.declared.program.Instr.{Instr}
 use Rattle.zair_text.specs.Values.{header_value}
 use Rattle.zair_read.specs.Kinds.{IsKind, may_stand}
 use Rattle.zair_read.specs.Texts.{IsTextOf}
