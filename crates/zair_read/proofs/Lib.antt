@@ -3,3 +3,7 @@ pub mod Sound
 pub mod Complete
 pub mod Answering
 pub mod Lines
+pub mod Telling
+pub mod Walk
+pub mod Answered
+pub mod Written

@@ -1,13 +1,12 @@
 -- The lines of a text, and which of them are right in their places.
-use Rattle.std.proofs.Common.{◌≡◌, ◌≢◌, ℕ, zero, suc, ◌+◌, ◌<◌, ◌≤◌, ◌==◌, ◌⊎◌, Bool, true, false, ◌&&◌, if◌then◌else◌, List, [], ◌∷◌, ◌++◌, length, Contains, Option, Some, None, IsTrue, refl, sym, ap, ap₂, ◌∙◌, subst, inl, inr, arith, append_assoc, append-nil, true≢false}
+use Rattle.std.proofs.Common.{◌≡◌, ◌≢◌, ℕ, zero, suc, ◌+◌, ◌<◌, Bool, true, if◌then◌else◌, List, [], ◌∷◌, ◌++◌, length, Contains, IsTrue, refl, sym, ap, ap₂, ◌∙◌, subst, inl, inr, arith, append_assoc, append-nil}
 use Rattle.std.proofs.lemmas.Bool.{and_parts, and_from}
 use Rattle.std.proofs.lemmas.Bool.Decides.{eqb_tells}
 use Rattle.std.proofs.lemmas.List.{append_cancel_right}
 use Rattle.std.proofs.lemmas.Option.{same_Some}
 use Rattle.std.specs.List.{list_all}
-use Rattle.serde_json.specs.Data.{Data, null, boolean, number, string, array, object, Members, no_members, member}
-use Rattle.serde_json.specs.Read.{read}
-use Rattle.zair_form.specs.Steps.{is_init, may_follow, is_program, has_own_steps}
+use Rattle.serde_json.specs.Data.{Data, object, no_members, member}
+use Rattle.zair_form.specs.Steps.{is_init, may_follow, is_program}
 use Rattle.zair_form.specs.declared.program.Act.{Act}
 use Rattle.zair_form.specs.declared.program.Act.TheVariants.{Init, Gates, Rydberg, Job, Readout}
 use Rattle.zair_form.specs.declared.program.Instr.{Instr}
@@ -32,11 +31,11 @@ snoc_same (z ∷ xs) (w ∷ ys) x y e =
     let rest = snoc_same xs ys x y tail in
     (ap₂ (λ a as'. a ∷ as') head rest.0, rest.1)
 
-no_snoc : {A : Type 0} (xs : List A) (x : A) → xs ++ x ∷ [] ≡ [] → ⊥
+pub no_snoc : {A : Type 0} (xs : List A) (x : A) → xs ++ x ∷ [] ≡ [] → ⊥
 no_snoc [] x e = cc
 no_snoc (y ∷ xs) x e = cc
 
-length_snoc : {A : Type 0} (xs : List A) (x : A) → length (xs ++ x ∷ []) ≡ length xs + 1
+pub length_snoc : {A : Type 0} (xs : List A) (x : A) → length (xs ++ x ∷ []) ≡ length xs + 1
 length_snoc [] x = refl
 length_snoc (y ∷ xs) x = omega (arith, length_snoc xs x)
 
@@ -59,7 +58,7 @@ lines_cut (b ∷ s) rest none =
     ahead b (s ++ 10 ∷ rest) (λ e. none (0, omega arith, e)) ∙ ap (before b) (lines_cut s rest (λ h. none (later_too b 10 s h)))
 
 -- what has no line feed is no line, or one
-data Uncut (s : List ℕ) : Type 0 where
+pub data Uncut (s : List ℕ) : Type 0 where
   no_line : lines_of s ≡ [] → Uncut s
   one_line : (line : List ℕ) → lines_of s ≡ line ∷ [] → ¬ Contains line 10 → Uncut s
 
@@ -96,16 +95,16 @@ has_feed (b ∷ bytes) = later_too b 10 (bytes ++ 10 ∷ []) (has_feed bytes)
 
 -- ---- one value, one instruction
 
-one_value : (v w : Data) (bytes : List ℕ) → IsTextOf v bytes → IsTextOf w bytes → v ≡ w
+pub one_value : (v w : Data) (bytes : List ℕ) → IsTextOf v bytes → IsTextOf w bytes → v ≡ w
 one_value v w bytes h k = same_Some v w (sym h.value_read ∙ k.value_read)
 
-same_front : (line s t : List ℕ) → line ≡ s ++ 10 ∷ [] → line ≡ t ++ 10 ∷ [] → s ≡ t
+pub same_front : (line s t : List ℕ) → line ≡ s ++ 10 ∷ [] → line ≡ t ++ 10 ∷ [] → s ≡ t
 same_front line s t e f = append_cancel_right s t (10 ∷ []) (sym e ∙ f)
 
 pub one_instr : (bytes : List ℕ) (i j : Instr) → IsInstrText bytes i → IsInstrText bytes j → i ≡ j
 one_instr bytes i j h k = instr_same i j h.own k.own (one_value (instr_value i) (instr_value j) bytes h.text k.text)
 
-line_instr : (line : List ℕ) (i j : Instr) → IsInstrLine line i → IsInstrLine line j → i ≡ j
+pub line_instr : (line : List ℕ) (i j : Instr) → IsInstrLine line i → IsInstrLine line j → i ≡ j
 line_instr line i j h k =
     let P : List ℕ → Type 0 = λ s. IsInstrText s j in
     one_instr h.bytes i j h.text (subst P (same_front line k.bytes h.bytes k.ended h.ended) k.text)
@@ -144,18 +143,18 @@ header_key : first_key header_value ≡ 116
 unfolding first_key first_byte
 header_key = refl
 
-no_end : (i : Instr) (t : Totals) → instr_value i ≡ end_value t → ⊥
+pub no_end : (i : Instr) (t : Totals) → instr_value i ≡ end_value t → ⊥
 no_end i t e = act_key i.begin i.end i.act (ap first_key e ∙ end_key t)
 
 header_no_end : (t : Totals) → header_value ≡ end_value t → ⊥
 header_no_end t e = let f : ◌≡◌ {A = ℕ} 116 103 = sym header_key ∙ ap first_key e ∙ end_key t in absurd (omega (arith, f))
 
-line_value : (v w : Data) (line : List ℕ) → IsLineOf v line → IsLineOf w line → v ≡ w
+pub line_value : (v w : Data) (line : List ℕ) → IsLineOf v line → IsLineOf w line → v ≡ w
 line_value v w line h k =
     let P : List ℕ → Type 0 = λ s. IsTextOf w s in
     one_value v w h.bytes h.text (subst P (same_front line k.bytes h.bytes k.ended h.ended) k.text)
 
-as_line : (line : List ℕ) (i : Instr) → IsInstrLine line i → IsLineOf (instr_value i) line
+pub as_line : (line : List ℕ) (i : Instr) → IsInstrLine line i → IsLineOf (instr_value i) line
 as_line line i h = record { bytes = h.bytes; ended = h.ended; text = h.text.text }
 
 -- ---- the last of the lines of instructions
@@ -180,7 +179,7 @@ and_last (m ∷ ls) l (j ∷ is) i h k = (h.0, and_last ls l is i h.1 k)
 
 -- ---- instructions with which a program starts
 
-all_front : {A : Type 0} (p : A → Bool) (xs : List A) (x : A) → list_all p (xs ++ x ∷ []) ≡ true → (list_all p xs ≡ true) × (p x ≡ true)
+pub all_front : {A : Type 0} (p : A → Bool) (xs : List A) (x : A) → list_all p (xs ++ x ∷ []) ≡ true → (list_all p xs ≡ true) × (p x ≡ true)
 all_front p [] x h = (refl, (and_parts (p x) true h).0)
 all_front p (y ∷ xs) x h =
     let q = and_parts (p y) (list_all p (xs ++ x ∷ [])) h in
@@ -286,7 +285,7 @@ open_or_whole : (ls : List (List ℕ)) (is js : List Instr) → IsOpen ls is →
 open_or_whole ls is js h k =
     last_no_end k.front k.last is (totals_of js) (open_last k.front k.last is (subst (λ ks. IsOpen ks is) k.ended h)) k.end_line
 
-nothing_whole : (is : List Instr) → IsWhole [] is → ⊥
+pub nothing_whole : (is : List Instr) → IsWhole [] is → ⊥
 nothing_whole is h = no_snoc h.front h.last (sym h.ended)
 
 nothing_open : (is : List Instr) → IsOpen [] is → ⊥
@@ -347,7 +346,7 @@ pub end_right : (ls : List (List ℕ)) (l : List ℕ) (is : List Instr) → IsOp
 end_right ls l is h program end = record { front = ls; last = l; ended = refl; open_front = h; program = program; end_line = end }
 
 -- what is right behind lines that may go on
-data RightNext (l : List ℕ) (is : List Instr) : Type 0 where
+pub data RightNext (l : List ℕ) (is : List Instr) : Type 0 where
   an_instr : (i : Instr) → IsInstrLine l i → IsStart (is ++ i ∷ []) → RightNext l is
   the_end : IsTrue (is_program is) → IsLineOf (end_value (totals_of is)) l → RightNext l is
 

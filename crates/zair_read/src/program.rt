@@ -65,7 +65,8 @@ fn whole(
 /// `serde_json` reads as the JSON value (`read_line` says what of it may differ), and its line feed.
 ///
 /// Else the fault tells the first line that is not right in its place, counted from 1; where the text ends before the line of
-/// its end, it is the line behind the last one. It reads a line at a time, in time linear in the bytes.
+/// its end, it is the line behind the last one. It reads a line at a time, and holds no line but this one beside the instructions.
+/// The time is linear in the bytes, up to the logarithm of the ordered trees that hold an object's keys and the tally's qubits.
 pub fn read_program(alloc: Global, bytes: &[u8]) -> Result<Program, ProgramFault>
     ensures program { IfOk result (IsProgramText bytes.now) }
     ensures fault { IfErr result (IsCauseOf bytes.now) }
