@@ -1,20 +1,15 @@
 -- The value of an instruction in range tells that instruction.
-use Rattle.std.proofs.Common.{◌≡◌, ℕ, ◌≤◌, ◌<◌, ◌^◌, Bool, true, false, ◌&&◌, ◌==◌, nat_le, if◌then◌else◌, List, [], ◌∷◌, map, codes, Option, Some, None, bytes_eq, refl, sym, ap, ◌∙◌, subst, arith, true≢false}
+use Rattle.std.proofs.Common.{◌≡◌, ℕ, ◌≤◌, true, ◌==◌, if◌then◌else◌, List, [], ◌∷◌, map, codes, Option, Some, None, refl, sym, ap, ◌∙◌, subst, arith, true≢false}
 use Rattle.std.proofs.lemmas.Bool.{and_parts, le-leb}
 use Rattle.std.proofs.lemmas.Bool.Decides.{Decides-eqb}
 use Rattle.std.specs.List.{AllByRecursion, list_all}
-use Rattle.serde_json.specs.Data.{Data, string, object, Items, no_items, item, Members, no_members, member}
+use Rattle.serde_json.specs.Data.{Data, string, object, Members, no_members, member}
 use Rattle.serde_json.specs.View.{items_of}
-use Rattle.zac_arch.specs.declared.place.TrapId.{TrapId}
-use Rattle.zac_gates.specs.declared.angle.Angles.{Angles}
-use Rattle.zair_form.specs.Ranges.{IsId, IsNumber, AnglesFit, BeamFits, CaughtFits, DroppedFits, GateFits, PairFits, ReadFits, StepFits, ActFits, InstrFits}
+use Rattle.zair_form.specs.Ranges.{IsId, IsNumber, BeamFits, CaughtFits, DroppedFits, GateFits, PairFits, ReadFits, StepFits, ActFits, InstrFits}
 use Rattle.zair_form.specs.Steps.{is_step_of, has_own_steps}
 use Rattle.zair_form.specs.declared.step.Beam.{Beam}
 use Rattle.zair_form.specs.declared.step.Caught.{Caught}
 use Rattle.zair_form.specs.declared.step.Dropped.{Dropped}
-use Rattle.zair_form.specs.declared.step.OneGate.{OneGate}
-use Rattle.zair_form.specs.declared.step.PairOf.{PairOf}
-use Rattle.zair_form.specs.declared.step.ReadOf.{ReadOf}
 use Rattle.zair_form.specs.declared.step.Step.{Step}
 use Rattle.zair_form.specs.declared.step.Step.TheVariants.{Activate, Move, Deactivate, One, Pulse}
 use Rattle.zair_form.specs.declared.step.Step.TheVariants as step
@@ -23,7 +18,7 @@ use Rattle.zair_form.specs.declared.program.Act.TheVariants.{Init, Gates, Rydber
 use Rattle.zair_form.specs.declared.program.Instr.{Instr}
 use Rattle.zair_text.specs.Values.{number_value, array_of, trap_value, beam_value, caught_value, dropped_value, pair_value, read_value, gate_value, step_value, act_value, instr_value, header_value, end_value}
 use Rattle.zair_text.specs.declared.counts.Totals.{Totals}
-use Rattle.zair_read.specs.Told.{◌>>=◌, number_up_to, told_id, told_number, told_position, told_list, told_items, told_trap, told_beam, told_caught, told_dropped, told_pair, told_read, field, number_field, ends_with, told_gate, told_or, told_activate, told_move, told_deactivate, atoms_parts, move_parts, told_step, times_fields, timed_parts, job_parts, timed, told_init, told_gates, told_rydberg, told_readout, told_job, told_instr, header_parts, first_counts, later_counts, told_totals}
+use Rattle.zair_read.specs.Told.{◌>>=◌, number_up_to, told_id, told_number, told_position, told_list, told_items, told_trap, told_beam, told_caught, told_dropped, told_pair, told_read, field, ends_with, told_gate, told_or, told_step, times_fields, timed_parts, job_parts, timed, told_init, told_gates, told_rydberg, told_readout, told_job, told_instr, header_parts, told_totals}
 use Rattle.zair_read.specs.Texts.{TotalsFit}
 
 -- ---- numbers

@@ -8,23 +8,16 @@ use Rattle.std.specs.List.{AllByRecursion, list_all}
 use Rattle.serde_json.specs.Data.{Num, unsigned, negative, float, Data, null, boolean, number, string, array, object, Items, no_items, item, Members, no_members, member}
 use Rattle.serde_json.specs.Find.{as_number, as_u64, as_str, as_array, as_object}
 use Rattle.serde_json.specs.View.{items_of}
-use Rattle.zac_arch.specs.declared.place.TrapId.{TrapId}
 use Rattle.zac_gates.specs.Angle.{is_angle}
 use Rattle.zac_gates.specs.declared.angle.Angles.{Angles}
-use Rattle.zair_form.specs.Ranges.{IsId, IsNumber, IsPosition, AnglesFit, BeamFits, CaughtFits, DroppedFits, GateFits, PairFits, ReadFits, StepFits, ActFits, InstrFits}
+use Rattle.zair_form.specs.Ranges.{IsId, IsNumber, AnglesFit, BeamFits, CaughtFits, DroppedFits, GateFits, PairFits, ReadFits, StepFits, ActFits, InstrFits}
 use Rattle.zair_form.specs.Steps.{is_step_of, has_own_steps}
-use Rattle.zair_form.specs.declared.step.Beam.{Beam}
-use Rattle.zair_form.specs.declared.step.Caught.{Caught}
-use Rattle.zair_form.specs.declared.step.Dropped.{Dropped}
-use Rattle.zair_form.specs.declared.step.OneGate.{OneGate}
-use Rattle.zair_form.specs.declared.step.PairOf.{PairOf}
-use Rattle.zair_form.specs.declared.step.ReadOf.{ReadOf}
 use Rattle.zair_form.specs.declared.step.Step.{Step}
 use Rattle.zair_form.specs.declared.step.Step.TheVariants.{Activate, Move, Deactivate}
 use Rattle.zair_form.specs.declared.program.Act.{Act}
 use Rattle.zair_form.specs.declared.program.Act.TheVariants.{Init, Gates, Rydberg, Job, Readout}
 use Rattle.zair_form.specs.declared.program.Instr.{Instr}
-use Rattle.zair_text.specs.Values.{number_value, array_of, numbers, trap_value, beam_value, caught_value, dropped_value, pair_value, read_value, gate_value, activate_value, move_value, deactivate_value, step_value, timed_value, act_value, instr_value, header_value, end_value}
+use Rattle.zair_text.specs.Values.{number_value, array_of, numbers, trap_value, beam_value, caught_value, dropped_value, pair_value, read_value, gate_value, activate_value, move_value, deactivate_value, step_value, act_value, instr_value, header_value, end_value}
 use Rattle.zair_text.specs.declared.counts.Totals.{Totals}
 use Rattle.zair_read.specs.Told.{◌>>=◌, number_up_to, told_id, told_number, told_position, two_items, told_two, three_items, told_three, told_items, told_list, told_trap, told_beam, told_caught, told_dropped, told_pair, told_read, field, is_end, number_field, is_the_text, is_word, ends_with, told_angle, told_angles, gate_parts, told_gate, beams_fields, atoms_parts, move_parts, told_or, told_activate, told_move, told_deactivate, told_step, times_fields, timed_parts, job_parts, timed, told_init, told_gates, told_rydberg, told_readout, told_job, told_instr, header_parts, first_counts, later_counts, told_totals}
 

@@ -363,15 +363,15 @@ told_totals d = do
   later ← later_counts first.4
   time ← number_field (codes "time") 4000000000000000000 later.4
   if ends_with (codes "type") (codes "end") time.1
-    then Some (record {
-      gates = first.0;
-      jobs = first.1;
-      kept = first.2;
-      moved = first.3;
-      pairs = later.0;
-      pulses = later.1;
-      qubits = later.2;
-      reads = later.3;
-      time = time.0;
-    })
-    else None
+      then Some (record {
+        gates = first.0;
+        jobs = first.1;
+        kept = first.2;
+        moved = first.3;
+        pairs = later.0;
+        pulses = later.1;
+        qubits = later.2;
+        reads = later.3;
+        time = time.0;
+      })
+      else None

@@ -43,7 +43,11 @@ impl<'a> Fields<'a> {
         ensures { option_map (λ v. (view v.now, members_view self.new.left)) result ≡ field key.now (members_view self.old.left) }
     {
         let (name, value) = self.left.next()?;
-        if name.as_str() == key { Some(value) } else { None }
+        if name.as_str() == key {
+            Some(value)
+        } else {
+            None
+        }
     }
 
     /// The number of the first member, if it has this key and its value is a whole number up to this one.

@@ -21,7 +21,11 @@ fn times_fields(fields: &mut Fields<'_>) -> Option<(u64, u64)>
 {
     let begin = fields.number("begin", TIME)?;
     let end = fields.number("end", TIME)?;
-    if begin <= end { Some((begin, end)) } else { None }
+    if begin <= end {
+        Some((begin, end))
+    } else {
+        None
+    }
 }
 
 // The begin, the end and the value of the list of an instruction of this kind.
