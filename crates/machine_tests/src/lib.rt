@@ -16,4 +16,6 @@ mod io;
 #[cfg(test)]
 mod machines;
 #[cfg(test)]
+mod reading;
+#[cfg(test)]
 mod text;

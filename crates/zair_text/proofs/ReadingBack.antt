@@ -26,13 +26,13 @@ use Rattle.zair_text.proofs.OneText.{HasNumbers-outline, depth-outline}
 use Rattle.zair_text.proofs.Shape.{instr_shallow}
 
 -- the members that were found, and then these
-abbrev put_all : Members → Members → Members
+abbrev pub put_all : Members → Members → Members
 put_all no_members found = found
 put_all (member k d ms) found = put_all ms (put k d found)
 
 -- each object in a value has its members in the order in which they are put
 abbrev mutual
-  InOrder : Data → Type 0
+  pub InOrder : Data → Type 0
   InOrder null = Unit {0}
   InOrder (boolean b) = Unit {0}
   InOrder (number n) = Unit {0}
@@ -54,7 +54,7 @@ number_read (negative z) small = absurd small
 number_read (float x) small = absurd small
 
 mutual
-  value_read : (d : Data) → HasSmallNumbers d → InOrder d → of_json (outline d) ≡ Some d
+  pub value_read : (d : Data) → HasSmallNumbers d → InOrder d → of_json (outline d) ≡ Some d
   value_read null small order = refl
   value_read (boolean b) small order = refl
   value_read (number n) small order = number_read n small
@@ -106,7 +106,7 @@ abbrev whole : Option (json.Json × List Token) → Option Data
 whole found = option_and_then of_json (option_and_then (λ p. json.if_last p.0 p.1) found)
 
 -- what reads a text reads its outline
-outline_read : (d : Data) → HasSmallNumbers d → depth d ≤ max_depth → json.value max_depth (tokens (compact_text d)) ≡ Some (outline d, [])
+pub outline_read : (d : Data) → HasSmallNumbers d → depth d ≤ max_depth → json.value max_depth (tokens (compact_text d)) ≡ Some (outline d, [])
 outline_read d small shallow =
     let ts : List Token = json_tokens (outline d) in
     let same : tokens (compact_text d) ≡ ts ++ [] = ap tokens (sym (print-outline d)) ∙ tokens-print ts (ArePrintable-json_tokens (outline d) (HasNumbers-outline d small)) ∙ sym (append-nil ts) in
