@@ -1,4 +1,7 @@
-pub mod Surroundings
-pub mod Unmoved
-pub mod Commuting
-pub mod Transfer
+
+
+
+
+pub mod Latest
+pub mod Marking
+pub mod Clashes
