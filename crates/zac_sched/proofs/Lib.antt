@@ -1,7 +1,9 @@
-
-
-
-
+pub mod Surroundings
+pub mod Unmoved
+pub mod Commuting
+pub mod Transfer
 pub mod Latest
 pub mod Marking
 pub mod Clashes
+pub mod GridTraps
+pub mod Changing

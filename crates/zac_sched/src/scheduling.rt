@@ -47,7 +47,7 @@ impl Ends {
         requires qubits { All (λ gate. gate.q < length self.old.qubits.items) ones }
         requires few { length ones ≤ 16000000 }
         requires room { HasRoom card.now self.old }
-        ensures { GoesOn card.now self.old (Todo.Gates ones.entry) result self.new }
+        ensures { GoesOn card.now self.old (Todo.Gates ones) result self.new }
     {
         let begin = after_gates(self.laser, &self.qubits, ones.as_slice());
         let end = begin + u64::from(card.figures().one) * ones.as_slice().len() as u64;
