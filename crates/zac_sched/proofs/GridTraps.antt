@@ -1,9 +1,12 @@
 -- The listed traps of a job are those of its grids.
-use Rattle.std.proofs.Common.{◌≡◌, ℕ, suc, ◌<◌, ◌≤◌, ◌⊎◌, inl, inr, List, [], ◌∷◌, ◌++◌, length, get_or, map, refl, sym, ap, ◌∙◌, subst, arith}
-use Rattle.std.specs.List.{Any, Contains, flat_map}
+use Rattle.std.proofs.Common.{◌≡◌, ℕ, suc, ◌<◌, ◌≤◌, ◌⊎◌, inl, inr, Bool, true, false, List, [], ◌∷◌, ◌++◌, length, get_or, map, refl, sym, ap, ◌∙◌, subst, arith}
+use Rattle.std.specs.List.{All, Any, Contains, flat_map, list_any}
 use Rattle.std.proofs.lemmas.List.Elements.{Contains-append_left, Contains-append_right, Contains-append_cases}
+use Rattle.std.proofs.lemmas.List.Folds.{Any-from_list_any, list_any-from_Any}
+use Rattle.std.proofs.lemmas.Bool.{both_ways, le-leb, leb-true}
+use Rattle.std.specs.Prelude.{nat_le}
 use Rattle.std.proofs.lemmas.Option.{slice_get_within}
-use Rattle.zac_arch.specs.Architecture.{Architecture, StandsAt, trap_count, trap_points}
+use Rattle.zac_arch.specs.Architecture.{Architecture, StandsAt, storage_count, trap_count, trap_points}
 use Rattle.zac_arch.specs.declared.place.Point.{Point}
 use Rattle.zac_arch.specs.declared.place.TrapId.{TrapId}
 use Rattle.zac_aod.specs.Jobs.{StandAt}
@@ -11,9 +14,9 @@ use Rattle.zac_aod.specs.Lines.{columns_of, crossings_of, rows_of, source_points
 use Rattle.zac_aod.specs.Soundness.{IsOnGrids}
 use Rattle.zac_aod.proofs.ListParts.{contained_in_flat_map, contains_flat_map}
 use Rattle.zac_group.specs.declared.shift.Shift.{Shift}
-use Rattle.zair_state.proofs.Membership.{contains_here, contains_later, contains_cases, contains_none, contains_map, contained_in_map}
+use Rattle.zair_state.proofs.Membership.{contains_here, contains_later, contains_cases, contains_none, contains_map, contained_in_map, all_from_contains}
 use Rattle.zair_state.specs.Resources.{IsOnGrid}
-use Rattle.zac_sched.proofs.Clashes.{AreGridTraps}
+use Rattle.zac_sched.proofs.Clashes.{AreGridTraps, MeetsZones}
 use Rattle.zac_sched.proofs.Latest.{any_none, any_here, any_later, any_cases, any_weaker}
 
 -- a trap stands at each point of the list
@@ -77,3 +80,18 @@ grid_traps a shifts grid one_trap stand = record {
       let at = listed_stands a grid (source_points a shifts ++ target_points a shifts) t stand h in
       slice_get_within (trap_points a) t at.0 at.2;
 }
+
+pub all_within : (a : Architecture) (shifts : List Shift) (grid : List TrapId) → AreGridTraps a shifts grid → All (λ (k : TrapId). k.0 < trap_count a) grid
+all_within a shifts grid g = all_from_contains (λ (k : TrapId). k.0 < trap_count a) grid (λ x c. g.within x.0 (c.0, x, c.1, c.2, refl))
+
+-- the test of a trap of the entangling zones
+pub meets : (a : Architecture) (grid : List TrapId) (storage : ℕ) → storage ≡ storage_count a → list_any (λ (k : TrapId). nat_le storage k.0) grid ≡ true → MeetsZones a grid
+meets a grid storage e h =
+    any_weaker (λ (k : TrapId). nat_le storage k.0 ≡ true) (λ (k : TrapId). storage_count a ≤ k.0) (λ k t. let le = leb-true storage k.0 t in omega arith) grid
+    (Any-from_list_any (λ (k : TrapId). nat_le storage k.0) grid h)
+
+pub clear_of_zones : (a : Architecture) (grid : List TrapId) (storage : ℕ) → storage ≡ storage_count a → list_any (λ (k : TrapId). nat_le storage k.0) grid ≡ false → ¬ MeetsZones a grid
+clear_of_zones a grid storage e h m =
+    both_ways (list_any (λ (k : TrapId). nat_le storage k.0) grid) h
+    (list_any-from_Any (λ (k : TrapId). nat_le storage k.0) grid
+    (any_weaker (λ (k : TrapId). storage_count a ≤ k.0) (λ (k : TrapId). nat_le storage k.0 ≡ true) (λ k le. le-leb storage k.0 (omega arith)) grid m))

@@ -7,3 +7,7 @@ pub mod Marking
 pub mod Clashes
 pub mod GridTraps
 pub mod Changing
+pub mod ByKind
+pub mod Going
+pub mod StepCounts
+pub mod Programs

@@ -1,6 +1,6 @@
 //! The times of a program.
 
-ghost use Rattle.std.specs.Prelude.{◌≡◌, ◌*◌, ◌≤◌, ◌<◌, [], ◌∷◌, IfOk, List, length};
+ghost use Rattle.std.specs.Prelude.{◌≡◌, ◌*◌, ◌≤◌, ◌<◌, [], ◌∷◌, IfOk, IsTrue, List, length};
 ghost use Rattle.std.specs.List.{All};
 ghost use Rattle.zac_aod.specs.Lowering.{job_steps};
 ghost use Rattle.zac_arch.specs.Architecture.{trap_count};
@@ -10,7 +10,7 @@ ghost use Rattle.zac_sched.specs.Schedule.{IsSchedule, start};
 ghost use Rattle.zac_sched.specs.Todos.{IsOfCard, NamesQubitsBelow, act_on, steps_in_all};
 ghost use Rattle.zac_sched.specs.declared.ends.Ends.{Ends};
 ghost use Rattle.zac_sched.specs.declared.todo.Todo.{Todo};
-ghost use Rattle.zair_form.specs.Steps.{steps_of};
+ghost use Rattle.zair_form.specs.Steps.{is_program, steps_of};
 ghost use Rattle.zair_form.specs.declared.program.Act.{Act};
 ghost use Rattle.zair_form.specs.declared.program.Instr.{Instr};
 ghost use Rattle.zair_state.specs.Resources.{AreApart};
@@ -108,8 +108,9 @@ impl Ends {
         laws_of_traps(card);
         let from = self.aods[aod as usize];
         let from = after_moves(from, &self.qubits, job.shifts());
-        let from = after_jobs(from, &self.traps, job.grid());
-        if meets_zones(card.storage_traps(), job.grid()) {
+        let grid = job.grid();
+        let from = after_jobs(from, &self.traps, grid);
+        if meets_zones(card.storage_traps(), grid) {
             from.max(self.pulse)
         } else {
             from
@@ -129,8 +130,9 @@ impl Ends {
         laws_of_traps(card);
         self.aods[aod as usize] = end;
         mark_moves(&mut self.qubits, job.shifts(), end);
-        mark_traps(&mut self.traps, job.grid(), end);
-        if meets_zones(card.storage_traps(), job.grid()) {
+        let grid = job.grid();
+        mark_traps(&mut self.traps, grid, end);
+        if meets_zones(card.storage_traps(), grid) {
             self.zones = self.zones.max(end);
         }
     }
@@ -143,6 +145,7 @@ impl Ends {
         requires room { HasRoom card.now self.old }
         ensures { GoesOn card.now self.old (Todo.Job job.entry) result self.new }
     {
+        let _rules = card.figures();
         let mut job = job;
         let aod = free_first(&self.aods);
         job.on(aod);
@@ -157,6 +160,33 @@ impl Ends {
                 steps: job.into_steps(),
             },
         }
+    }
+
+    /// The next instruction.
+    fn next(&mut self, card: &Card, todo: Todo<'_>) -> Instr
+        requires card { IsOfCard card.now todo }
+        requires qubits { NamesQubitsBelow (length self.old.qubits.items) todo }
+        requires few { length (steps_of (act_on 0 todo)) ≤ 16000000 }
+        requires room { HasRoom card.now self.old }
+        ensures { GoesOn card.now self.old todo.entry result self.new }
+    {
+        match todo {
+            Todo::Gates { ones } => self.gates(card, ones),
+            Todo::Rydberg { pairs } => self.pulse(card, pairs),
+            Todo::Job { job } => self.job(card, job),
+            Todo::Readout { reads } => self.readout(card, reads),
+        }
+    }
+}
+
+/// These instructions as a program.
+fn program_of(instrs: Vec<Instr>) -> Program
+    requires { IsTrue (is_program instrs.items) }
+    ensures { result ≡ instrs.items }
+{
+    match Program::new(List::of(instrs)) {
+        Some(program) => program,
+        None => unreachable!(),
     }
 }
 
@@ -176,6 +206,18 @@ pub fn schedule(alloc: Global, card: &Card, homes: List<TrapId>, todo: List<Todo
     ensures apart { IfOk result (λ program. AreApart card.now program) }
     ensures ends { IfOk result (λ program. All (λ i. (i.begin ≤ i.end) × (i.end ≤ 1000000000 * steps_in_all todo.entry)) program) }
 {
-    let _ = (alloc, card, homes, todo);
-    Err(Memory)
+    let mut ends = Ends::new(alloc, card, homes.as_slice().len())?;
+    let todo = todo.into_vec();
+    let mut instrs = Vec::with_capacity(alloc, todo.len() + 1)?;
+    instrs.push(Instr {
+        begin: 0,
+        end: 0,
+        act: Act::Init { homes },
+    })?;
+    for one in todo {
+        let next = ends.next(card, one);
+        instrs.push(next)?;
+    }
+    let _rules = card.figures();
+    Ok(program_of(instrs))
 }
