@@ -206,6 +206,7 @@ pub fn schedule(alloc: Global, card: &Card, homes: List<TrapId>, todo: List<Todo
     ensures apart { IfOk result (λ program. AreApart card.now program) }
     ensures ends { IfOk result (λ program. All (λ i. (i.begin ≤ i.end) × (i.end ≤ 1000000000 * steps_in_all todo.entry)) program) }
 {
+    let _rules = card.figures();
     let mut ends = Ends::new(alloc, card, homes.as_slice().len())?;
     let todo = todo.into_vec();
     let mut instrs = Vec::with_capacity(alloc, todo.len() + 1)?;
@@ -218,6 +219,5 @@ pub fn schedule(alloc: Global, card: &Card, homes: List<TrapId>, todo: List<Todo
         let next = ends.next(card, one);
         instrs.push(next)?;
     }
-    let _rules = card.figures();
     Ok(program_of(instrs))
 }
