@@ -43,6 +43,7 @@ one_more_least n ns k h = elim (at_most_or_above n (get_or ns k 0)) [
     first : (n : ℕ) (ns : List ℕ) (k : ℕ) → IsFirstLeast ns k → n ≤ get_or ns k 0 → (j : ℕ) → j < length (n ∷ ns) → (n < get_or (n ∷ ns) j 0) ⊎ ((n ≡ get_or (n ∷ ns) j 0) × (0 ≤ j))
     first n ns k h le zero within = inr (refl, omega arith)
     first n ns k h le (suc j) within = below_or_same n (get_or ns j 0) j (omega (arith, not_above (get_or ns k 0) (get_or ns j 0) j k (h.least j (omega arith))))
+
     later : (n : ℕ) (ns : List ℕ) (k : ℕ) → IsFirstLeast ns k → get_or ns k 0 < n → (j : ℕ) → j < length (n ∷ ns) → (get_or ns k 0 < get_or (n ∷ ns) j 0) ⊎ ((get_or ns k 0 ≡ get_or (n ∷ ns) j 0) × (suc k ≤ j))
     later n ns k h lt zero within = inl lt
     later n ns k h lt (suc j) within = elim (h.least j (omega arith)) [

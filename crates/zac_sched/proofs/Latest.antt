@@ -43,17 +43,6 @@ pub any_last : {X : Type 0} (P : X → Type 0) (xs : List X) (y : X) → P y →
 any_last P [] y h = any_here P y [] h
 any_last P (x ∷ xs) y h = any_later P x (xs ++ y ∷ []) (any_last P xs y h)
 
--- what holds of some item, and for all of them implies something
-pub any_all : {X : Type 0} (P : X → Type 0) (Q : Type 0) (xs : List X) → Any P xs → ((x : X) → P x → Q) → Q
-any_all P Q xs h f = f h.1 h.4
-
-all_at : {X : Type 0} (P Q R : X → Type 0) → ((x : X) → P x → Q x → R x) → (xs : List X) → All P xs → Any Q xs → Any (λ x. P x × Q x) xs
-all_at P Q R f xs all h = (h.0, h.1, h.2, h.3, (subst P h.3 (All-get_or P xs h.0 h.1 h.2 all), h.4))
-
--- an item that has one property has another that all items have
-pub both : {X : Type 0} (P Q : X → Type 0) (xs : List X) → All P xs → Any Q xs → Any (λ x. P x × Q x) xs
-both P Q xs all h = (h.0, h.1, h.2, h.3, (subst P h.3 (All-get_or P xs h.0 h.1 h.2 all), h.4))
-
 -- the greatest end of other such instructions is the same
 pub latest_alike : (P Q : Act → Type 0) → ((x : Act) → P x → Q x) → ((x : Act) → Q x → P x) → (earlier : List Instr) (end : ℕ) → IsLatest P earlier end → IsLatest Q earlier end
 latest_alike P Q there back earlier end h = record {

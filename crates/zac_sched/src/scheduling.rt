@@ -138,15 +138,15 @@ impl Ends {
     }
 
     /// The next instruction, of one rearrangement.
-    fn job(&mut self, card: &Card, job: Job<'_>) -> Instr
+    fn job(&mut self, card: &Card, mut job: Job<'_>) -> Instr
         requires card { job.card ≡ card.now }
         requires qubits { All (λ shift. shift.q < length self.old.qubits.items) job.shifts }
         requires few { length (job_steps job.card job.shifts 0) ≤ 16000000 }
         requires room { HasRoom card.now self.old }
         ensures { GoesOn card.now self.old (Todo.Job job.entry) result self.new }
     {
-        let _rules = card.figures();
-        let mut job = job;
+        // Its contract says that there are one to eight AODs.
+        let _figures = card.figures();
         let aod = free_first(&self.aods);
         job.on(aod);
         let begin = self.free_for(card, aod, &job);
@@ -197,7 +197,12 @@ fn program_of(instrs: Vec<Instr>) -> Program
 /// one that uses something that it uses too (the laser, an AOD, a qubit, a trap), else at 0, and takes as long as its steps, in
 /// nanoseconds. So no resource serves two instructions at once. The call takes time in proportion to the resources that the
 /// instructions name.
-pub fn schedule(alloc: Global, card: &Card, homes: List<TrapId>, todo: List<Todo<'_>>) -> Result<Program, Memory>
+pub fn schedule(
+    alloc: Global,
+    card: &Card,
+    homes: List<TrapId>,
+    todo: List<Todo<'_>>,
+) -> Result<Program, Memory>
     requires cards { All (IsOfCard card.now) todo }
     requires qubits { All (NamesQubitsBelow (length homes)) todo }
     requires few { length todo ≤ 2000000 }
@@ -206,7 +211,8 @@ pub fn schedule(alloc: Global, card: &Card, homes: List<TrapId>, todo: List<Todo
     ensures apart { IfOk result (λ program. AreApart card.now program) }
     ensures ends { IfOk result (λ program. All (λ i. (i.begin ≤ i.end) × (i.end ≤ 1000000000 * steps_in_all todo.entry)) program) }
 {
-    let _rules = card.figures();
+    // Its contract says how long steps take at most.
+    let _figures = card.figures();
     let mut ends = Ends::new(alloc, card, homes.as_slice().len())?;
     let todo = todo.into_vec();
     let mut instrs = Vec::with_capacity(alloc, todo.len() + 1)?;

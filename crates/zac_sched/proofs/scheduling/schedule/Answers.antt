@@ -29,16 +29,15 @@ next-next-requires-clause-few c =
 pub next-next-requires-clause-room : goal.next-next-requires-clause-room
 next-next-requires-clause-room c =
     let a = c.args.card.now in
-    let rules : HasFigureRanges a.figures = subst HasFigureRanges c.figures-rules.ensures.figures c.figures-rules.ensures.ranges in
+    let rules : HasFigureRanges a.figures = subst HasFigureRanges c.figures-figures.ensures.figures c.figures-figures.ensures.ranges in
     let count = steps_of_part c.loop-one.yielded c.loop-one.one-iterator.rest.items in
     let all : steps_in_all (c.loop-one.yielded ++ c.loop-one.one-iterator.rest.items) ≡ steps_in_all c.args.todo = ap steps_in_all c.loop-one.invariant.whole in
     let few = c.requires.few_steps in
-    let done : steps_in_all c.loop-one.yielded ≤ 16000000 = omega arith in
-    (
+    let done : steps_in_all c.loop-one.yielded ≤ 16000000 = omega arith in (
       c.loop-one.instrs.items,
       c.loop-one.invariant.ends,
       All-weaker (EndsBy (steps_in_all c.loop-one.yielded)) (λ (i : Instr). i.end ≤ 16000000000000000) (λ i b. let low = b.1 in omega arith) c.loop-one.instrs.items
-      (schedule_ends a rules c.args.homes c.loop-one.yielded c.loop-one.instrs.items c.loop-one.invariant.schedule),
+          (schedule_ends a rules c.args.homes c.loop-one.yielded c.loop-one.instrs.items c.loop-one.invariant.schedule),
     )
 
 pub loop-one-init : goal.loop-one-init
@@ -85,7 +84,7 @@ returns-clause-apart c =
 pub returns-clause-ends : goal.returns-clause-ends
 returns-clause-ends c =
     let a = c.args.card.now in
-    let rules : HasFigureRanges a.figures = subst HasFigureRanges c.figures-rules.ensures.figures c.figures-rules.ensures.ranges in
+    let rules : HasFigureRanges a.figures = subst HasFigureRanges c.figures-figures.ensures.figures c.figures-figures.ensures.ranges in
     let left = c.loop-one.one-iterator.rest in
     let none : left.items ≡ [] = nothing_left left.items (omega (arith, c.in-None.ensures.steps.0, left.ok.0)) in
     let done : c.loop-one.yielded ≡ c.args.todo = sym (append-nil c.loop-one.yielded) ∙ ap (λ (l : List Todo). c.loop-one.yielded ++ l) (sym none) ∙ c.loop-one.invariant.whole in

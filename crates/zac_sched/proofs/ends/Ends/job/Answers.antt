@@ -17,11 +17,11 @@ use Rattle.zac_sched.proofs.ends.Ends.job.Goals as goal
 
 pub free_first-aod-requires-clause-some : goal.free_first-aod-requires-clause-some
 free_first-aod-requires-clause-some c =
-    omega (arith, ap length c.deref.ensures.value, c.requires.room.1.aods_are, ap (λ (f : Figures). f.aods) c.figures-rules.ensures.figures, c.figures-rules.ensures.ranges.aods_least)
+    omega (arith, ap length c.deref.ensures.value, c.requires.room.1.aods_are, ap (λ (f : Figures). f.aods) c.figures-figures.ensures.figures, c.figures-figures.ensures.ranges.aods_least)
 
 pub free_first-aod-requires-clause-few : goal.free_first-aod-requires-clause-few
 free_first-aod-requires-clause-few c =
-    omega (arith, ap length c.deref.ensures.value, c.requires.room.1.aods_are, ap (λ (f : Figures). f.aods) c.figures-rules.ensures.figures, c.figures-rules.ensures.ranges.aods_most)
+    omega (arith, ap length c.deref.ensures.value, c.requires.room.1.aods_are, ap (λ (f : Figures). f.aods) c.figures-figures.ensures.figures, c.figures-figures.ensures.ranges.aods_most)
 
 pub overflow_add-end : goal.overflow_add-end
 overflow_add-end c =
@@ -31,7 +31,7 @@ overflow_add-end c =
     let shifts : c.on.new.self.shifts ≡ job.shifts = ap (λ (j : JobOf). j.shifts) c.on.ensures in
     let low = begins_low a c.args.self.now (act.Job aod (job_steps a c.on.new.self.shifts aod)) c.free_for-begin.result c.requires.room c.free_for-begin.ensures in
     let card : c.on.new.self.card ≡ a = ap (λ (j : JobOf). j.card) c.on.ensures ∙ c.requires.card in
-    let rules : HasFigureRanges a.figures = subst HasFigureRanges c.figures-rules.ensures.figures c.figures-rules.ensures.ranges in
+    let rules : HasFigureRanges a.figures = subst HasFigureRanges c.figures-figures.ensures.figures c.figures-figures.ensures.ranges in
     let steps : job_steps c.on.new.self.card c.on.new.self.shifts c.on.new.self.aod ≡ job_steps job.card job.shifts aod =
     ap (λ (j : JobOf). job_steps j.card j.shifts j.aod) c.on.ensures in
     let lasts : LastTogether a.figures [] (job_steps job.card job.shifts aod) c.duration.result =
