@@ -1,25 +1,23 @@
 -- When gates, a pulse, a readout or a job can begin, and the last ends behind it.
-use Rattle.std.proofs.Common.{◌≡◌, ℕ, ◌+◌, ◌<◌, ◌≤◌, ◌⊎◌, inl, inr, Bool, true, false, List, [], ◌∷◌, ◌++◌, length, get_or, set, fold, map, max, refl, sym, ap, ◌∙◌, subst, arith}
+use Rattle.std.proofs.Common.{◌≡◌, ℕ, ◌<◌, ◌≤◌, ◌⊎◌, inl, inr, List, length, get_or, set, fold, map, max, refl, sym, ap, ◌∙◌, subst, arith}
 use Rattle.std.specs.List.{All, Any}
 use Rattle.std.proofs.Math.ListN.{length-set}
 use Rattle.std.proofs.lemmas.List.Elements.{All-weaker}
 use Rattle.zac_aod.specs.Resources.{HasResources}
-use Rattle.zac_arch.specs.Architecture.{Architecture, storage_count, trap_count}
+use Rattle.zac_arch.specs.Architecture.{Architecture, storage_count}
 use Rattle.zac_arch.specs.declared.place.TrapId.{TrapId}
 use Rattle.zac_group.specs.declared.shift.Shift.{Shift}
-use Rattle.zair_form.specs.declared.program.Act.{Act}
-use Rattle.zair_form.specs.declared.program.Act.TheVariants.{Init, Gates, Rydberg, Job, Readout}
+use Rattle.zair_form.specs.declared.program.Act.TheVariants.{Gates, Rydberg, Job, Readout}
 use Rattle.zair_form.specs.declared.program.Instr.{Instr}
 use Rattle.zair_form.specs.declared.step.OneGate.{OneGate}
 use Rattle.zair_form.specs.declared.step.PairOf.{PairOf}
 use Rattle.zair_form.specs.declared.step.ReadOf.{ReadOf}
 use Rattle.zair_form.specs.declared.step.Step.{Step}
 use Rattle.zair_state.specs.Resources.{Conflict, Uses}
-use Rattle.zair_state.specs.Resources.{Resource}
 use Rattle.zair_state.specs.Resources.Resource.{Laser, Aod, Qubit, Trap}
 use Rattle.zac_sched.specs.Ends.{AreEnds, AreMarked, IsLatest, IsPulse, TakesTrap, TakesZoneTrap}
 use Rattle.zac_sched.specs.declared.ends.Ends.{Ends}
-use Rattle.zac_sched.proofs.Changing.{Changes, Told, as_last_end, as_latest, changes_mark}
+use Rattle.zac_sched.proofs.Changing.{Told, as_latest, changes_mark}
 use Rattle.zac_sched.proofs.Clashes.{AreGridTraps, MeetsZones, OfJob, OfPair, of_gates, of_job, of_pulse, of_readout, with_gates, with_job, with_pulse, with_pulses, with_readout}
 use Rattle.zac_sched.proofs.Latest.{Either, latest_alike, latest_either, latest_of_all}
 use Rattle.zac_sched.proofs.Marking.{Noted, length_noted, noted_all, noted_one, noted_two}

@@ -1,15 +1,15 @@
 -- How the last ends change behind one instruction.
-use Rattle.std.proofs.Common.{◌≡◌, ℕ, ◌+◌, ◌<◌, ◌≤◌, ◌⊎◌, inl, inr, List, [], ◌∷◌, ◌++◌, length, get_or, set, fold, max, refl, sym, ap, ◌∙◌, subst, arith}
-use Rattle.std.specs.List.{All, Any}
-use Rattle.std.proofs.lemmas.List.Elements.{All-push, All-weaker, All-get_or}
-use Rattle.zac_arch.specs.Architecture.{Architecture, storage_count, trap_count}
+use Rattle.std.proofs.Common.{◌≡◌, ℕ, ◌<◌, ◌≤◌, ◌⊎◌, inl, inr, List, [], ◌∷◌, ◌++◌, length, get_or, max, sym, ◌∙◌, subst, arith}
+use Rattle.std.specs.List.{All}
+use Rattle.std.proofs.lemmas.List.Elements.{All-push, All-weaker}
+use Rattle.zac_arch.specs.Architecture.{Architecture}
 use Rattle.zair_form.specs.declared.program.Act.{Act}
 use Rattle.zair_form.specs.declared.program.Act.TheVariants.{Init, Gates, Rydberg, Job, Readout}
 use Rattle.zair_form.specs.declared.program.Instr.{Instr}
 use Rattle.zair_state.specs.Resources.{Conflict, Uses}
 use Rattle.zair_state.specs.Resources.{Resource}
 use Rattle.zair_state.specs.Resources.Resource.{Laser, Aod, Qubit, Trap}
-use Rattle.zac_sched.specs.Ends.{AreEnds, AreMarked, IsLatest, IsPulse, TakesTrap, TakesZoneTrap}
+use Rattle.zac_sched.specs.Ends.{AreMarked, IsLatest, IsPulse, TakesTrap, TakesZoneTrap}
 use Rattle.zac_sched.specs.Schedule.{IsLastEnd}
 use Rattle.zac_sched.specs.declared.ends.Ends.{Ends}
 use Rattle.zac_sched.proofs.Latest.{any_last, any_before, any_weaker, latest_more, latest_kept}

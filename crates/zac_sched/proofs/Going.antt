@@ -1,6 +1,5 @@
 -- The next instruction.
 use Rattle.std.proofs.Common.{◌≡◌, ℕ, zero, suc, ◌+◌, ◌*◌, ◌<◌, ◌≤◌, ◌⊎◌, inl, inr, List, [], ◌∷◌, ◌++◌, length, get_or, map, replicate, refl, sym, ap, ◌∙◌, subst, arith}
-use Rattle.std.specs.List.{All}
 use Rattle.std.proofs.lemmas.Bool.{cases_lt}
 use Rattle.std.proofs.lemmas.List.Elements.{All-cons, All-nil, All-weaker}
 use Rattle.zac_arch.specs.Architecture.{Architecture, trap_count}
@@ -16,7 +15,7 @@ use Rattle.zair_form.specs.declared.step.Step.TheVariants.{One}
 use Rattle.zair_state.specs.Resources.{Conflict, Uses}
 use Rattle.zair_state.specs.Resources.Resource.{Laser, Aod, Qubit}
 use Rattle.zac_sched.specs.Ends.{AreEnds, AreMarked, GoesOn, HasRoom, IsFirstLeast, IsFreeFrom, IsLatest, IsPulse, TakesTrap, TakesZoneTrap}
-use Rattle.zac_sched.specs.Schedule.{IsFreeFirst, IsLastEnd, start}
+use Rattle.zac_sched.specs.Schedule.{IsFreeFirst, start}
 use Rattle.zac_sched.specs.Todos.{act_on}
 use Rattle.zac_sched.specs.declared.ends.Ends.{Ends}
 use Rattle.zac_sched.specs.declared.todo.Todo.{Todo}

@@ -1,6 +1,6 @@
 -- The listed traps of a job are those of its grids.
-use Rattle.std.proofs.Common.{◌≡◌, ℕ, suc, ◌<◌, ◌≤◌, ◌⊎◌, inl, inr, Bool, true, false, List, [], ◌∷◌, ◌++◌, length, get_or, map, refl, sym, ap, ◌∙◌, subst, arith}
-use Rattle.std.specs.List.{All, Any, Contains, flat_map, list_any}
+use Rattle.std.proofs.Common.{◌≡◌, ℕ, ◌<◌, ◌≤◌, ◌⊎◌, inl, inr, true, false, List, [], ◌∷◌, ◌++◌, map, refl, ap, subst, arith}
+use Rattle.std.specs.List.{All, Any, Contains, list_any}
 use Rattle.std.proofs.lemmas.List.Elements.{Contains-append_left, Contains-append_right, Contains-append_cases}
 use Rattle.std.proofs.lemmas.List.Folds.{Any-from_list_any, list_any-from_Any}
 use Rattle.std.proofs.lemmas.Bool.{both_ways, le-leb, leb-true}
@@ -10,7 +10,7 @@ use Rattle.zac_arch.specs.Architecture.{Architecture, StandsAt, storage_count, t
 use Rattle.zac_arch.specs.declared.place.Point.{Point}
 use Rattle.zac_arch.specs.declared.place.TrapId.{TrapId}
 use Rattle.zac_aod.specs.Jobs.{StandAt}
-use Rattle.zac_aod.specs.Lines.{columns_of, crossings_of, rows_of, source_points, target_points}
+use Rattle.zac_aod.specs.Lines.{crossings_of, source_points, target_points}
 use Rattle.zac_aod.specs.Soundness.{IsOnGrids}
 use Rattle.zac_aod.proofs.ListParts.{contained_in_flat_map, contains_flat_map}
 use Rattle.zac_group.specs.declared.shift.Shift.{Shift}

@@ -4,7 +4,7 @@ use Rattle.std.specs.List.{list_all}
 use Rattle.std.proofs.lemmas.Bool.{and_from, and_parts, eq-eqb}
 use Rattle.std.proofs.lemmas.List.{length-map}
 use Rattle.zac_aod.specs.Aods.{step_on}
-use Rattle.zac_aod.specs.Lowering.{Leg, flight, job_steps, legs, loading, unloading}
+use Rattle.zac_aod.specs.Lowering.{Leg, flight, job_steps, loading, unloading}
 use Rattle.zac_aod.specs.Lines.{rows_of}
 use Rattle.zac_aod.proofs.Durations.{lasts_most}
 use Rattle.zac_aod.proofs.OtherAods.{job_on}

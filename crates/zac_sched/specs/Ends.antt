@@ -1,5 +1,5 @@
 -- Inside: the last ends that `schedule` keeps.
-use Rattle.std.specs.Prelude.{◌≡◌, ℕ, ◌+◌, ◌<◌, ◌≤◌, ◌⊎◌, List, [], ◌∷◌, ◌++◌, length, slice_index}
+use Rattle.std.specs.Prelude.{◌≡◌, ℕ, ◌<◌, ◌≤◌, ◌⊎◌, List, [], ◌∷◌, ◌++◌, length, slice_index}
 use Rattle.std.specs.List.{All, Any}
 use Rattle.zac_arch.specs.Architecture.{Architecture, storage_count, trap_count}
 use Rattle.zair_form.specs.declared.program.Act.{Act}

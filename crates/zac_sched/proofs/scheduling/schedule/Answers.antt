@@ -1,14 +1,13 @@
-use Rattle.std.proofs.Common.{◌≡◌, ℕ, ◌+◌, ◌*◌, ◌≤◌, List, [], ◌∷◌, ◌++◌, length, refl, sym, ap, ◌∙◌, subst, arith}
+use Rattle.std.proofs.Common.{◌≡◌, ◌≤◌, List, [], ◌∷◌, ◌++◌, length, refl, sym, ap, ◌∙◌, subst, arith}
 use Rattle.std.specs.List.{All}
 use Rattle.std.proofs.lemmas.List.{append_assoc, append-nil}
 use Rattle.std.proofs.lemmas.List.Elements.{All-weaker}
 use Rattle.zac_arch.specs.Rules.{HasFigureRanges}
-use Rattle.zair_form.specs.Steps.{is_program, steps_of}
 use Rattle.zair_form.specs.declared.program.Instr.{Instr}
 use Rattle.zair_state.specs.Resources.{AreApart}
 use Rattle.zac_sched.specs.Ends.{AreEnds}
 use Rattle.zac_sched.specs.Schedule.{IsSchedule, start}
-use Rattle.zac_sched.specs.Todos.{act_on, steps_in_all}
+use Rattle.zac_sched.specs.Todos.{steps_in_all}
 use Rattle.zac_sched.specs.declared.todo.Todo.{Todo}
 use Rattle.zac_sched.proofs.Programs.{EndsBy, schedule_apart, schedule_ends, schedule_form, schedule_more, schedule_start, steps_of_part}
 use Rattle.zac_sched.proofs.scheduling.schedule.Goals as goal

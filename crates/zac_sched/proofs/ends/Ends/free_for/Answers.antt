@@ -1,18 +1,16 @@
-use Rattle.std.proofs.Common.{rules, ◌≡◌, ◌≢◌, ℕ, ◌+◌, ◌<◌, ◌≤◌, Bool, true, false, List, [], ◌++◌, fold, get_or, length, map, max, set, refl, sym, ap, ◌∙◌, subst, arith}
+use Rattle.std.proofs.Common.{◌≡◌, ℕ, ◌<◌, ◌++◌, fold, get_or, length, map, max, sym, ap, ◌∙◌, subst}
 use Rattle.std.proofs.lemmas.List.{get_or_default}
 use Rattle.std.specs.List.{All}
-use Rattle.std.specs.Vec.{with_item, with_items}
 use Rattle.zac_aod.specs.Jobs.{StandAt}
 use Rattle.zac_aod.specs.Lines.{source_points, target_points}
 use Rattle.zac_aod.specs.Lowering.{job_steps}
-use Rattle.zac_arch.specs.Architecture.{Architecture, trap_count}
+use Rattle.zac_arch.specs.Architecture.{Architecture}
 use Rattle.zac_arch.specs.declared.place.TrapId.{TrapId}
 use Rattle.zair_form.specs.declared.program.Act.TheVariants as act
 use Rattle.zac_group.specs.Groups.{IsGroup}
 use Rattle.zac_group.specs.declared.shift.Shift.{Shift}
 use Rattle.zac_sched.specs.Ends.{IsFreeFrom}
-use Rattle.zac_sched.specs.declared.ends.Ends.{Ends}
-use Rattle.zac_sched.proofs.ByKind.{job_free, job_from, job_mark, of_qubit, zone_job_free}
+use Rattle.zac_sched.proofs.ByKind.{job_free, job_from, of_qubit, zone_job_free}
 use Rattle.zac_sched.proofs.GridTraps.{all_within, grid_traps, clear_of_zones, meets}
 use Rattle.zac_sched.proofs.ends.Ends.free_for.Goals as goal
 

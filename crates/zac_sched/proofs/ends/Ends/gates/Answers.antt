@@ -5,8 +5,6 @@ use Rattle.std.specs.Vec.{with_items}
 use Rattle.zac_arch.specs.declared.card.Figures.{Figures}
 use Rattle.zair_form.specs.declared.program.Act.TheVariants as act
 use Rattle.zair_form.specs.declared.step.OneGate.{OneGate}
-use Rattle.zair_form.specs.declared.step.PairOf.{PairOf}
-use Rattle.zair_form.specs.declared.step.ReadOf.{ReadOf}
 use Rattle.zac_sched.specs.Ends.{IsFreeFrom}
 use Rattle.zac_sched.specs.declared.ends.Ends.{Ends}
 use Rattle.zac_sched.specs.declared.todo.Todo.TheVariants as todo

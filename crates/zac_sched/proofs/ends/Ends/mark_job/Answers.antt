@@ -1,17 +1,16 @@
-use Rattle.std.proofs.Common.{◌≡◌, ◌≢◌, ℕ, ◌+◌, ◌<◌, ◌≤◌, inl, inr, Bool, true, false, List, [], ◌++◌, fold, get_or, length, map, max, set, refl, sym, ap, ◌∙◌, subst, arith}
+use Rattle.std.proofs.Common.{◌≡◌, ℕ, ◌<◌, inl, inr, List, ◌++◌, fold, length, set, refl, sym, ap, ◌∙◌, subst, arith}
 use Rattle.std.proofs.lemmas.List.{with_items_is}
 use Rattle.std.specs.List.{All}
 use Rattle.std.specs.Vec.{with_item, with_items}
 use Rattle.zac_aod.specs.Jobs.{StandAt}
 use Rattle.zac_aod.specs.Lines.{source_points, target_points}
 use Rattle.zac_aod.specs.Lowering.{job_steps}
-use Rattle.zac_arch.specs.Architecture.{Architecture, trap_count}
+use Rattle.zac_arch.specs.Architecture.{Architecture}
 use Rattle.zac_arch.specs.declared.place.TrapId.{TrapId}
 use Rattle.zac_group.specs.Groups.{IsGroup}
 use Rattle.zac_group.specs.declared.shift.Shift.{Shift}
-use Rattle.zac_sched.specs.Ends.{IsFreeFrom}
 use Rattle.zac_sched.specs.declared.ends.Ends.{Ends}
-use Rattle.zac_sched.proofs.ByKind.{job_free, job_from, job_mark, ZonesTold, of_qubit, zone_job_free}
+use Rattle.zac_sched.proofs.ByKind.{job_mark, ZonesTold}
 use Rattle.zac_sched.proofs.GridTraps.{all_within, grid_traps, clear_of_zones, meets}
 use Rattle.zac_sched.proofs.ends.Ends.mark_job.Goals as goal
 

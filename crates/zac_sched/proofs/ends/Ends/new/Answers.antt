@@ -1,4 +1,4 @@
-use Rattle.std.proofs.Common.{ℕ, replicate, refl, sym, ap, ◌∙◌}
+use Rattle.std.proofs.Common.{ℕ, replicate, refl, ap, ◌∙◌}
 use Rattle.zac_arch.specs.declared.card.Figures.{Figures}
 use Rattle.zac_sched.specs.declared.ends.Ends.{Ends}
 use Rattle.zac_sched.proofs.Going.{ends_at_start}
