@@ -7,6 +7,7 @@ ghost use Rattle.zac_aod.specs.Jobs.{StandAt};
 ghost use Rattle.zac_aod.specs.Lines.{source_points, target_points};
 ghost use Rattle.zac_aod.specs.Lowering.{job_steps};
 ghost use Rattle.zac_aod.specs.Soundness.{IsSoundJob};
+ghost use Rattle.zac_group.specs.Groups.{IsGroup};
 ghost use Rattle.zair_form.specs.Ranges.{StepFits};
 ghost use Rattle.zair_form.specs.Times.{LastTogether};
 
@@ -73,9 +74,10 @@ impl Job<'_> {
         self.steps.as_slice()
     }
 
-    /// The moves, by source y, then source x.
+    /// The moves, by source y, then source x. They are a group on the job's card.
     pub fn shifts(&self) -> &[Shift]
-        ensures { result.now ≡ self.now.shifts }
+        ensures shifts { result.now ≡ self.now.shifts }
+        ensures group { IsGroup (record { card = self.now.card; shifts = self.now.shifts }) }
     {
         self.shifts.as_slice()
     }

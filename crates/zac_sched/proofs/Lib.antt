@@ -16,3 +16,12 @@ pub mod TidyRuns
 pub mod TidyPrograms
 pub mod Darkness
 pub mod Exchanging
+pub mod Latest
+pub mod Marking
+pub mod Clashes
+pub mod GridTraps
+pub mod Changing
+pub mod ByKind
+pub mod Going
+pub mod StepCounts
+pub mod Programs

@@ -1,3 +1,4 @@
 pub mod Todos
 pub mod Schedule
 pub mod Exchange
+pub mod Ends

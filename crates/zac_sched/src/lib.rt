@@ -4,6 +4,7 @@
 //! The instructions and their resources follow ZAC (Lin, Tan and Cong, HPCA 2025); the rule of times is this project's own.
 #![tactic(auto)]
 
+mod ends;
 mod laws;
 mod scheduling;
 mod todo;
