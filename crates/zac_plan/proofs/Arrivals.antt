@@ -126,7 +126,7 @@ to_sites_few a rests (p ∷ ps) [] = omega arith
 to_sites_few a rests (p ∷ ps) (s ∷ ss) = omega (arith, to_sites_few a rests ps ss)
 
 -- there are at most two moves for a gate
-arrivals_few : (a : Architecture) (rests : List TrapId) (pairs : List PairOf) (sites : List ℕ) → length (arrivals a rests pairs sites) ≤ 2 * length pairs
+pub arrivals_few : (a : Architecture) (rests : List TrapId) (pairs : List PairOf) (sites : List ℕ) → length (arrivals a rests pairs sites) ≤ 2 * length pairs
 arrivals_few a rests pairs sites =
     omega (
       arith,

@@ -26,6 +26,7 @@ pub mod Returns
 pub mod SentHome
 pub mod Arriving
 pub mod Taking
+pub mod Counts
 pub mod Growing
 pub mod Grouping
 pub mod RoundGrowth
@@ -38,4 +39,3 @@ pub mod PulsePairs
 pub mod Performing
 pub mod Counting
 pub mod Planned
-pub mod Ranges

@@ -16,26 +16,38 @@ use Rattle.zair_form.specs.declared.step.PairOf.{PairOf}
 use Rattle.zair_form.specs.declared.step.ReadOf.{ReadOf}
 use Rattle.zair_form.specs.declared.step.Step.{Step}
 use Rattle.zair_form.specs.declared.step.Step.TheVariants.{One}
-use Rattle.zair_form.specs.declared.program.Act.{Act}
-use Rattle.zair_form.specs.declared.program.Act.TheVariants.{Rydberg}
 use Rattle.zair_form.specs.Steps.{steps_of}
+use Rattle.zac_sched.specs.Todos.{act_on}
+use Rattle.zac_sched.specs.declared.todo.Todo.{Todo}
+use Rattle.zac_sched.specs.declared.todo.Todo.TheVariants.{Gates, Job, Readout, Rydberg}
 use Rattle.zair_state.specs.Run.{entries, log_of}
 use Rattle.zac_group.specs.Groups.{MoveGroup}
 use Rattle.zac_group.specs.declared.shift.Shift.{Shift}
-use Rattle.zac_plan.specs.Plan.{AreJobs, AreRounds, IsRound, Rearrangement, after_arrivals, job_of, gate_of, pair_of, read_of, gates_at, pairs_at, reads_in, gates_act, reads_act}
+use Rattle.zac_plan.specs.Plan.{AreJobs, AreRounds, IsRound, Rearrangement, after_arrivals, job_of, gate_of, pair_of, read_of, gates_at, pairs_at, reads_in, gates_todo, reads_todo}
 use Rattle.zac_plan.proofs.Jobs.{job_log}
 
--- the log of what instructions do, one after another
-abbrev pub acts_log : List Act → List Entry
-acts_log acts = log_of (flat_map (λ act. steps_of act) acts)
+-- the steps of what is to be done, where AOD 0 makes all jobs
+abbrev pub steps_on_first : Todo → List Step
+steps_on_first todo = steps_of (act_on 0 todo)
 
-log_of-append : (xs ys : List Step) → log_of (xs ++ ys) ≡ log_of xs ++ log_of ys
+-- the log of what is to be done, one thing after another
+abbrev pub todo_log : List Todo → List Entry
+todo_log todo = log_of (flat_map steps_on_first todo)
+
+-- other AODs have the same log
+pub same_log : (aod : ℕ) (todo : Todo) → log_of (steps_of (act_on aod todo)) ≡ log_of (steps_of (act_on 0 todo))
+same_log aod (Gates ones) = refl
+same_log aod (Rydberg pairs) = refl
+same_log aod (Job job) = job_log job.card job.shifts aod ∙ sym (job_log job.card job.shifts 0)
+same_log aod (Readout reads) = refl
+
+pub log_of-append : (xs ys : List Step) → log_of (xs ++ ys) ≡ log_of xs ++ log_of ys
 log_of-append xs ys = flat_map-append (λ s. entries s) xs ys
 
-acts_log-append : (xs ys : List Act) → acts_log (xs ++ ys) ≡ acts_log xs ++ acts_log ys
-acts_log-append xs ys =
-    ap log_of (flat_map-append (λ act. steps_of act) xs ys)
-    ∙ log_of-append (flat_map (λ act. steps_of act) xs) (flat_map (λ act. steps_of act) ys)
+pub todo_log-append : (xs ys : List Todo) → todo_log (xs ++ ys) ≡ todo_log xs ++ todo_log ys
+todo_log-append xs ys =
+    ap log_of (flat_map-append steps_on_first xs ys)
+    ∙ log_of-append (flat_map steps_on_first xs) (flat_map steps_on_first ys)
 
 -- the entry of an op of this number
 abbrev pub entry : ℕ → Op → Entry
@@ -67,24 +79,24 @@ pairs_log pairs = map (λ p. record { op = p.op; what = op.Two p.a p.b }) pairs
 abbrev reads_log : List ReadOf → List Entry
 reads_log reads = map (λ r. record { op = r.op; what = op.Read r.q r.bit }) reads
 
-gates_act_log : (ones : List OneGate) → acts_log (gates_act ones) ≡ ones_log ones
-gates_act_log [] = refl
-gates_act_log (g ∷ gs) = ap log_of (append-nil (map (λ gate. One gate) (g ∷ gs)))
+gates_todo_log : (ones : List OneGate) → todo_log (gates_todo ones) ≡ ones_log ones
+gates_todo_log [] = refl
+gates_todo_log (g ∷ gs) = ap log_of (append-nil (map (λ gate. One gate) (g ∷ gs)))
 
-reads_act_log : (reads : List ReadOf) → acts_log (reads_act reads) ≡ reads_log reads
-reads_act_log [] = refl
-reads_act_log (r ∷ rs) = append-nil (reads_log (r ∷ rs))
+reads_todo_log : (reads : List ReadOf) → todo_log (reads_todo reads) ≡ reads_log reads
+reads_todo_log [] = refl
+reads_todo_log (r ∷ rs) = append-nil (reads_log (r ∷ rs))
 
-groups_log : (a : Architecture) (groups : List MoveGroup) → acts_log (map (job_of a) groups) ≡ []
+groups_log : (a : Architecture) (groups : List MoveGroup) → todo_log (map (job_of a) groups) ≡ []
 groups_log a [] = refl
 groups_log a (g ∷ gs) =
-    acts_log-append (job_of a g ∷ []) (map (job_of a) gs)
-    ∙ ap (λ (l : List Entry). l ++ acts_log (map (job_of a) gs)) (ap log_of (append-nil (job_steps a g.shifts 0)) ∙ job_log a g.shifts)
+    todo_log-append (job_of a g ∷ []) (map (job_of a) gs)
+    ∙ ap (λ (l : List Entry). l ++ todo_log (map (job_of a) gs)) (ap log_of (append-nil (job_steps a g.shifts 0)) ∙ job_log a g.shifts 0)
     ∙ groups_log a gs
 
 -- jobs perform no op
-jobs_log : (a : Architecture) (shifts : List Shift) (acts : List Act) → AreJobs a shifts acts → acts_log acts ≡ []
-jobs_log a shifts acts h = ap acts_log h.jobs ∙ groups_log a h.groups
+jobs_log : (a : Architecture) (shifts : List Shift) (todo : List Todo) → AreJobs a shifts todo → todo_log todo ≡ []
+jobs_log a shifts todo h = ap todo_log h.jobs ∙ groups_log a h.groups
 
 no_true : false ≡ true → ⊥
 no_true e = cc
@@ -148,40 +160,40 @@ entries_at-append : (ops : List Op) (ms ns : List ℕ) → entries_at ops (ms ++
 entries_at-append ops ms ns = filter_map-append (λ n. option_map (entry n) (slice_get ops n)) ms ns
 
 -- the log of a round
-round_log : (a : Architecture) (ops : List Op) (rests : List TrapId) (before slot pulse : List ℕ) (r : Rearrangement) (acts : List Act) →
-    IsRound a ops rests before slot pulse r acts → AreOnes ops slot → ArePairs ops pulse → acts_log acts ≡ entries_at ops (slot ++ pulse)
-round_log a ops rests before slot pulse r acts h ones pairs =
+round_log : (a : Architecture) (ops : List Op) (rests : List TrapId) (before slot pulse : List ℕ) (r : Rearrangement) (todo : List Todo) →
+    IsRound a ops rests before slot pulse r todo → AreOnes ops slot → ArePairs ops pulse → todo_log todo ≡ entries_at ops (slot ++ pulse)
+round_log a ops rests before slot pulse r todo h ones pairs =
     let these : List PairOf = pairs_at ops pulse in
-    let from_arrivals : acts_log (h.arrival_jobs ++ Rydberg these ∷ []) ≡ entries_at ops pulse =
-    acts_log-append h.arrival_jobs (Rydberg these ∷ [])
-    ∙ ap (λ (l : List Entry). l ++ acts_log (Rydberg these ∷ [])) (jobs_log a _ h.arrival_jobs h.arrived)
+    let from_arrivals : todo_log (h.arrival_jobs ++ Rydberg these ∷ []) ≡ entries_at ops pulse =
+    todo_log-append h.arrival_jobs (Rydberg these ∷ [])
+    ∙ ap (λ (l : List Entry). l ++ todo_log (Rydberg these ∷ [])) (jobs_log a _ h.arrival_jobs h.arrived)
     ∙ append-nil (pairs_log these)
     ∙ pulse_log ops pulse pairs in
-    let from_returns : acts_log (h.return_jobs ++ (h.arrival_jobs ++ Rydberg these ∷ [])) ≡ entries_at ops pulse =
-    acts_log-append h.return_jobs (h.arrival_jobs ++ Rydberg these ∷ [])
-    ∙ ap (λ (l : List Entry). l ++ acts_log (h.arrival_jobs ++ Rydberg these ∷ [])) (jobs_log a _ h.return_jobs h.returned)
+    let from_returns : todo_log (h.return_jobs ++ (h.arrival_jobs ++ Rydberg these ∷ [])) ≡ entries_at ops pulse =
+    todo_log-append h.return_jobs (h.arrival_jobs ++ Rydberg these ∷ [])
+    ∙ ap (λ (l : List Entry). l ++ todo_log (h.arrival_jobs ++ Rydberg these ∷ [])) (jobs_log a _ h.return_jobs h.returned)
     ∙ from_arrivals in
-    ap acts_log h.acts_are
-    ∙ acts_log-append (gates_act (gates_at ops slot)) (h.return_jobs ++ (h.arrival_jobs ++ Rydberg these ∷ []))
-    ∙ ap (λ (l : List Entry). l ++ acts_log (h.return_jobs ++ (h.arrival_jobs ++ Rydberg these ∷ []))) (gates_act_log (gates_at ops slot) ∙ slot_log ops slot ones)
+    ap todo_log h.todo_is
+    ∙ todo_log-append (gates_todo (gates_at ops slot)) (h.return_jobs ++ (h.arrival_jobs ++ Rydberg these ∷ []))
+    ∙ ap (λ (l : List Entry). l ++ todo_log (h.return_jobs ++ (h.arrival_jobs ++ Rydberg these ∷ []))) (gates_todo_log (gates_at ops slot) ∙ slot_log ops slot ones)
     ∙ ap (λ (l : List Entry). entries_at ops slot ++ l) from_returns
     ∙ sym (entries_at-append ops slot pulse)
 
 -- the log of the rounds of a plan
-pub rounds_log : (a : Architecture) (ops : List Op) (rests : List TrapId) (before : List ℕ) (slots pulses : List (List ℕ)) (acts : List Act) →
-    AreRounds a ops rests before slots pulses acts →
-    AllByRecursion (AreOnes ops) slots → AllByRecursion (ArePairs ops) pulses → acts_log acts ≡ entries_at ops (in_turn slots pulses)
-rounds_log a ops rests before [] pulses acts h ones pairs = ap acts_log h
-rounds_log a ops rests before (slot ∷ slots) [] acts h ones pairs =
-    ap acts_log h.1
-    ∙ acts_log-append (gates_act (gates_at ops slot)) h.0
-    ∙ ap (λ (l : List Entry). l ++ acts_log h.0) (gates_act_log (gates_at ops slot) ∙ slot_log ops slot ones.0)
+pub rounds_log : (a : Architecture) (ops : List Op) (rests : List TrapId) (before : List ℕ) (slots pulses : List (List ℕ)) (todo : List Todo) →
+    AreRounds a ops rests before slots pulses todo →
+    AllByRecursion (AreOnes ops) slots → AllByRecursion (ArePairs ops) pulses → todo_log todo ≡ entries_at ops (in_turn slots pulses)
+rounds_log a ops rests before [] pulses todo h ones pairs = ap todo_log h
+rounds_log a ops rests before (slot ∷ slots) [] todo h ones pairs =
+    ap todo_log h.1
+    ∙ todo_log-append (gates_todo (gates_at ops slot)) h.0
+    ∙ ap (λ (l : List Entry). l ++ todo_log h.0) (gates_todo_log (gates_at ops slot) ∙ slot_log ops slot ones.0)
     ∙ ap (λ (l : List Entry). entries_at ops slot ++ l) (rounds_log a ops rests before slots [] h.0 h.2 ones.1 tt)
     ∙ sym (entries_at-append ops slot (in_turn slots []))
-rounds_log a ops rests before (slot ∷ slots) (pulse ∷ pulses) acts h ones pairs =
-    ap acts_log h.3
-    ∙ acts_log-append h.1 h.2
-    ∙ ap (λ (l : List Entry). l ++ acts_log h.2) (round_log a ops rests before slot pulse h.0 h.1 h.4 ones.0 pairs.0)
+rounds_log a ops rests before (slot ∷ slots) (pulse ∷ pulses) todo h ones pairs =
+    ap todo_log h.3
+    ∙ todo_log-append h.1 h.2
+    ∙ ap (λ (l : List Entry). l ++ todo_log h.2) (round_log a ops rests before slot pulse h.0 h.1 h.4 ones.0 pairs.0)
     ∙ ap (λ (l : List Entry). entries_at ops (slot ++ pulse) ++ l)
     (rounds_log a ops (after_arrivals a ops rests before pulse h.0) pulse slots pulses h.2 h.5 ones.1 pairs.1)
     ∙ sym (entries_at-append ops (slot ++ pulse) (in_turn slots pulses))
@@ -192,10 +204,10 @@ abbrev pub performed : List Op → List (List ℕ) → List (List ℕ) → List 
 performed ops slots pulses = in_turn slots pulses ++ reads_among ops (range_with_len 0 (length ops))
 
 -- the log of the whole plan
-pub plan_log : (a : Architecture) (ops : List Op) (homes : List TrapId) (slots pulses : List (List ℕ)) (rounds : List Act) → AreRounds a ops homes [] slots pulses rounds →
-    AllByRecursion (AreOnes ops) slots → AllByRecursion (ArePairs ops) pulses → acts_log (rounds ++ reads_act (reads_in ops)) ≡ entries_at ops (performed ops slots pulses)
+pub plan_log : (a : Architecture) (ops : List Op) (homes : List TrapId) (slots pulses : List (List ℕ)) (rounds : List Todo) → AreRounds a ops homes [] slots pulses rounds →
+    AllByRecursion (AreOnes ops) slots → AllByRecursion (ArePairs ops) pulses → todo_log (rounds ++ reads_todo (reads_in ops)) ≡ entries_at ops (performed ops slots pulses)
 plan_log a ops homes slots pulses rounds are ones pairs =
-    acts_log-append rounds (reads_act (reads_in ops))
-    ∙ ap (λ (l : List Entry). l ++ acts_log (reads_act (reads_in ops))) (rounds_log a ops homes [] slots pulses rounds are ones pairs)
-    ∙ ap (λ (l : List Entry). entries_at ops (in_turn slots pulses) ++ l) (reads_act_log (reads_in ops) ∙ readout_log ops (range_with_len 0 (length ops)))
+    todo_log-append rounds (reads_todo (reads_in ops))
+    ∙ ap (λ (l : List Entry). l ++ todo_log (reads_todo (reads_in ops))) (rounds_log a ops homes [] slots pulses rounds are ones pairs)
+    ∙ ap (λ (l : List Entry). entries_at ops (in_turn slots pulses) ++ l) (reads_todo_log (reads_in ops) ∙ readout_log ops (range_with_len 0 (length ops)))
     ∙ sym (entries_at-append ops (in_turn slots pulses) (reads_among ops (range_with_len 0 (length ops))))

@@ -2,42 +2,39 @@
 use Rattle.std.proofs.Common.{◌≡◌, ◌≢◌, ℕ, zero, suc, ◌+◌, ◌*◌, ◌<◌, ◌≤◌, inl, inr, List, [], ◌∷◌, ◌++◌, Some, length, drop, get_or, slice_get, append_assoc, append-nil, refl, sym, ap, ◌∙◌, subst, arith, map}
 use Rattle.std.specs.List.{All, AllByRecursion, AllPairs, range_with_len}
 use Rattle.std.proofs.lemmas.Bool.{cases_eq, cases_lt}
-use Rattle.std.proofs.lemmas.List.{drop_all}
+use Rattle.std.proofs.lemmas.List.{drop_all, length-append}
 use Rattle.std.proofs.lemmas.List.Elements.{recursion_from_All}
 use Rattle.std.proofs.lemmas.List.FromFn.{length-map-range_with_len}
 use Rattle.std.proofs.lemmas.Option.{get_or_from_slice_get, slice_get-get_or, slice_get_within}
-use Rattle.zac_aod.specs.Lowering.{job_steps}
 use Rattle.zac_arch.specs.Architecture.{Architecture, site_count, storage_count, trap_count}
-use Rattle.zac_arch.specs.Rules.{KeepsRules, HasFigureRanges}
+use Rattle.zac_arch.specs.Rules.{KeepsRules}
 use Rattle.zac_arch.specs.declared.place.TrapId.{TrapId}
 use Rattle.zac_arch.proofs.Geometry.{storage_count_most, trap_count_is}
 use Rattle.zac_gates.specs.Ops.{NativeCircuit, IsInRange, IsValid}
 use Rattle.zac_gates.specs.declared.circuit.Op.{Op}
-use Rattle.zac_place.specs.Homes.{AreApartInStorage, AreHomesByUse}
+use Rattle.zac_place.specs.Homes.{AreApartInStorage}
 use Rattle.zac_world.specs.Places.{Places}
 use Rattle.zac_stage.specs.Numbers.{is_one_of, is_pair_of, NumbersFollow}
 use Rattle.zac_stage.specs.Staging.{Staging, IsStaging}
-use Rattle.zair_form.specs.Ranges.{ActFits, IsNumber}
-use Rattle.zair_form.specs.declared.program.Act.{Act}
-use Rattle.zair_form.specs.declared.program.Act.TheVariants.{Init, Job, Rydberg}
-use Rattle.zair_form.specs.declared.program.Instr.{Instr}
+use Rattle.zac_sched.specs.Todos.{steps_in_all}
+use Rattle.zac_sched.specs.declared.todo.Todo.{Todo}
+use Rattle.zac_sched.specs.declared.todo.Todo.TheVariants.{Rydberg}
+use Rattle.zair_form.specs.Ranges.{IsNumber}
 use Rattle.zair_form.specs.declared.step.Step.{Step}
-use Rattle.zair_state.specs.Chain.{IsChain, IsSafeChain, MovesGoSomewhere, end_of}
 use Rattle.zair_state.specs.Invariant.{IsSound}
 use Rattle.zair_state.specs.Legal.{AreOnce}
 use Rattle.zair_state.specs.Run.{IsLegalRun, after_all}
 use Rattle.zair_state.specs.State.{State, opening}
-use Rattle.zac_group.specs.Groups.{IsGroup}
-use Rattle.zac_group.specs.declared.shift.Shift.{Shift}
-use Rattle.zac_plan.specs.declared.timeline.Timeline.{Timeline}
-use Rattle.zac_plan.specs.Growth.{ActsFit, AreSoundJobs, GoesOn, GrowsByRound, IsStagingOf, numbers_at, pulse_before}
-use Rattle.zac_plan.specs.Plan.{AreJobs, AreRounds, IsPlan, IsRound, after_arrivals, after_returns, arrivals, returns, gates_act, gates_at, pairs_at, places, reads_act, reads_in}
+use Rattle.zac_plan.specs.declared.agenda.Agenda.{Agenda}
+use Rattle.zac_plan.specs.Growth.{FitsOnEach, GoesOn, GrowsByRound, IsStagingOf, numbers_at, pulse_before}
+use Rattle.zac_plan.specs.Leading.{LeadOn}
+use Rattle.zac_plan.specs.Plan.{AreRounds, IsPlan, IsRound, after_arrivals, gates_at, gates_todo, pairs_at, pairs_in, places, reads_in, reads_todo}
 use Rattle.zac_plan.specs.Seats.{AreSeated, IsPulse, rests_in}
-use Rattle.zac_plan.proofs.Acts.{IsPart, part_append, part_none, readout_part, round_part, seated_next, slot_part, sound_after}
-use Rattle.zac_plan.proofs.Counting.{size, gates_most, pairs_most}
-use Rattle.zac_plan.proofs.Growing.{goes_nowhere, goes_on_append}
-use Rattle.zac_plan.proofs.Lists.{all_from_contains, contained_in_filter, contained_in_none, contained_in_range, pairs_map}
-use Rattle.zac_plan.proofs.Performing.{are_homes, plan_is_safe}
+use Rattle.zac_plan.proofs.Acts.{lead_append, readout_part, round_part, seated_next, slot_part, sound_after}
+use Rattle.zac_plan.proofs.Counting.{size, gates_most, pairs_are_few}
+use Rattle.zac_plan.proofs.Counts.{gates_at_few, gates_few, reads_few, round_few, steps-append}
+use Rattle.zac_plan.proofs.Jobs.{JobLaws}
+use Rattle.zac_plan.proofs.Lists.{all-append, all_from_contains, contained_in_filter, contained_in_none, contained_in_range, pairs_map}
 use Rattle.zac_plan.proofs.Staged.{none_placed, pulses_fit}
 use Rattle.zac_plan.proofs.Turns.{all_mapped, pulse, slot}
 use Rattle.zac_plan.proofs.Worlds.{rests_of_places}
@@ -58,11 +55,7 @@ drop_at {X} (y ∷ ys) (suc n) x h =
     let next : suc n + 1 ≡ suc (n + 1) = omega arith in
     drop_at ys n x h ∙ ap (λ m. x ∷ drop m (y ∷ ys)) (sym next)
 
-fits_mapped : (is : List Instr) → AllByRecursion ActFits (map (λ i. i.act) is) → ActsFit is
-fits_mapped [] h = tt
-fits_mapped (i ∷ is) h = (h.0, fits_mapped is h.1)
-
-homes_fit : (a : Architecture) → KeepsRules a → (homes : List TrapId) → All (λ (h : TrapId). h.0 < storage_count a) homes → AllByRecursion (λ (t : TrapId). IsNumber t.0) homes
+pub homes_fit : (a : Architecture) → KeepsRules a → (homes : List TrapId) → All (λ (h : TrapId). h.0 < storage_count a) homes → AllByRecursion (λ (t : TrapId). IsNumber t.0) homes
 homes_fit a rules [] h = tt
 homes_fit a rules (t ∷ ts) h =
     let here : t.0 < storage_count a = h 0 t (omega arith) in
@@ -86,19 +79,19 @@ pulses_below s right =
     (λ t. all_from_contains (λ k. k < length s.circuit.ops) (pulse s t)
     (λ k listed. omega (arith, (contained_in_range 0 (length s.circuit.ops) k (contained_in_filter (is_pair_of s.circuit.ops s.numbers t) (range_with_len 0 (length s.circuit.ops)) k listed).0).1))))
 
--- The first t rounds are done: what was to do is what has been done and what is left, and the time that what is left
--- takes at most is there. What has been done leads from the homes to where the pairs of the last pulse are at the sites.
-pub record DoesRounds (a : Architecture) (c : NativeCircuit) (s : Staging) (homes : List TrapId) (old new : Timeline) (world : Places) (t : ℕ) : Type 0 where
-  pub acts : List Act
-  pub goes_on : GoesOn a.figures old new acts
+-- The first t rounds are done: what was to do is what is on the agenda and what is left, and there is room for what is
+-- left. The agenda leads from the homes to where the pairs of the last pulse are at the sites.
+pub record DoesRounds (a : Architecture) (c : NativeCircuit) (s : Staging) (homes : List TrapId) (agenda : Agenda) (world : Places) (t : ℕ) : Type 0 where
+  pub fits : AllByRecursion FitsOnEach agenda.todo.items
   pub its_card : world.architecture ≡ a
   pub seats : AreSeated a c.qubits (rests_in world) (pairs_at c.ops (pulse_before s.pairs t))
-  pub left : (rest : List Act) → AreRounds a c.ops (rests_in world) (pulse_before s.pairs t) (drop t s.gates) (drop t s.pairs) rest →
-      AreRounds a c.ops homes [] s.gates s.pairs (acts ++ rest)
-  pub part : IsPart a homes acts (rests_in world)
+  pub left : (rest : List Todo) → AreRounds a c.ops (rests_in world) (pulse_before s.pairs t) (drop t s.gates) (drop t s.pairs) rest →
+      AreRounds a c.ops homes [] s.gates s.pairs (agenda.todo.items ++ rest)
+  pub lead : LeadOn a homes agenda.todo.items (rests_in world)
   pub sound : IsSound a (opening a (rests_in world))
-  pub most : new.now + 8000000000 * length (pulse_before s.pairs t) + (1000000000 * size (drop t s.gates) + 17000000000 * size (drop t s.pairs))
-      ≤ old.now + (1000000000 * size s.gates + 17000000000 * size s.pairs)
+  pub few : length agenda.todo.items + 2 * length (pulse_before s.pairs t) + 6 * size (drop t s.pairs) ≤ 6 * size s.pairs
+  pub few_steps : steps_in_all agenda.todo.items + 8 * length (pulse_before s.pairs t) + (size (drop t s.gates) + 17 * size (drop t s.pairs))
+      ≤ size s.gates + 17 * size s.pairs
 
 -- the homes are a sound state
 homes_sound : (a : Architecture) (n : ℕ) (homes : List TrapId) → KeepsRules a → AreApartInStorage a n homes →
@@ -141,25 +134,23 @@ homes_seated a n homes rules apart = record {
   others = λ q t at. inr (all_at a homes q t apart.in_storage at);
 }
 
-pub does_none : (a : Architecture) (c : NativeCircuit) (s : Staging) (homes : List TrapId) (x : Timeline) (world : Places) → KeepsRules a → AreApartInStorage a c.qubits homes →
+pub does_none : (a : Architecture) (c : NativeCircuit) (s : Staging) (homes : List TrapId) (x : Agenda) (world : Places) → KeepsRules a → AreApartInStorage a c.qubits homes →
     ((a : Architecture) (homes : List TrapId) → All (λ (home : TrapId). home.0 < trap_count a) homes → AreOnce (map (λ (home : TrapId). home.0) homes) → IsSound a (opening a homes)) →
-    world ≡ places a homes → DoesRounds a c s homes x x world 0
-does_none a c s homes x world rules apart opens is =
+    world ≡ places a homes → x.todo.items ≡ [] → DoesRounds a c s homes x world 0
+does_none a c s homes x world rules apart opens is none =
     let there : rests_in world ≡ homes = ap rests_in is ∙ rests_of_places a homes in
     record {
-      acts = [];
-      goes_on = goes_nowhere a.figures x;
+      fits = subst (AllByRecursion FitsOnEach) (sym none) tt;
       its_card = ap (λ (w : Places). w.architecture) is;
       seats = subst (λ (l : List TrapId). AreSeated a c.qubits l []) (sym there) (homes_seated a c.qubits homes rules apart);
-      left = λ rest are. subst (λ (l : List TrapId). AreRounds a c.ops l [] s.gates s.pairs rest) there are;
-      part = subst (λ (l : List TrapId). IsPart a homes [] l) (sym there) (part_none a homes);
+      left = λ rest are.
+          subst (λ (l : List Todo). AreRounds a c.ops homes [] s.gates s.pairs (l ++ rest)) (sym none)
+          (subst (λ (l : List TrapId). AreRounds a c.ops l [] s.gates s.pairs rest) there are);
+      lead = subst (λ (l : List Todo). LeadOn a homes l (rests_in world)) (sym none) (sym there);
       sound = subst (λ (l : List TrapId). IsSound a (opening a l)) (sym there) (homes_sound a c.qubits homes rules apart opens);
-      most = omega arith;
+      few = omega (arith, ap (λ (l : List Todo). length l) none);
+      few_steps = omega (arith, ap (λ (l : List Todo). steps_in_all l) none);
     }
-
--- jobs that are sound are jobs
-are_jobs : (a : Architecture) (shifts : List Shift) (acts : List Act) → AreSoundJobs a shifts acts → AreJobs a shifts acts
-are_jobs a shifts acts h = record { groups = h.groups; grouping = h.grouping; jobs = h.jobs }
 
 -- the slot or pulse of this number, where there is one
 pub numbers_found : (lists : List (List ℕ)) (t : ℕ) → t < length lists → slice_get lists t ≡ Some (numbers_at lists t)
@@ -207,7 +198,7 @@ module _ (a : Architecture) (c : NativeCircuit) (s : Staging) (rules : KeepsRule
   slots_longer : length s.gates ≡ length s.pairs + 1
   slots_longer = ap length of.right.gates_are ∙ length-map-range_with_len (slot s) 0 (length s.pairs + 1)
 
-  module _ (homes : List TrapId) (x y z : Timeline) (world behind : Places) (t : ℕ) (does : DoesRounds a c s homes x y world t) (within : t < length s.pairs) where
+  module _ (homes : List TrapId) (y z : Agenda) (world behind : Places) (t : ℕ) (does : DoesRounds a c s homes y world t) (within : t < length s.pairs) where
     slots_next : drop t s.gates ≡ numbers_at s.gates t ∷ drop (t + 1) s.gates
     slots_next = drop_at s.gates t (numbers_at s.gates t) (numbers_found s.gates t (omega (arith, slots_longer)))
 
@@ -220,21 +211,11 @@ module _ (a : Architecture) (c : NativeCircuit) (s : Staging) (rules : KeepsRule
     size_pulses : size (drop t s.pairs) ≡ length (numbers_at s.pairs t) + size (drop (t + 1) s.pairs)
     size_pulses = ap size pulses_next
 
-    -- there is time for the next round
-    pub room_for : x.now ≡ 0 → length c.ops ≤ 786432 →
-        y.now + 8000000000 * length (pulse_before s.pairs t) + 1000000000 * length (numbers_at s.gates t) + 8000000000 * length (numbers_at s.pairs t) + 1000000000 ≤ 20000000000000000
-    room_for now few =
-        let most = does.most in
-        let some = pulse_some t (numbers_at s.pairs t) (numbers_found s.pairs t within) in
-        let ops : length s.circuit.ops ≡ length c.ops = ap (λ (d : NativeCircuit). length d.ops) of.circuit in
-        omega (arith, size_slots, size_pulses, gates_most s of.right, pairs_most s of.right)
-
     -- one round more is done
-    module _ (keeps : (s : State) (steps : List Step) → IsSound a s → IsLegalRun a s steps → IsSound a (after_all s steps))
-        (goes : (shifts : List Shift) → IsGroup (record { card = a; shifts = shifts }) → MovesGoSomewhere (Job 0 (job_steps a shifts 0)))
+    module _ (keeps : (s : State) (steps : List Step) → IsSound a s → IsLegalRun a s steps → IsSound a (after_all s steps)) (laws : JobLaws a)
         (grows : GrowsByRound a c.ops (pulse_before s.pairs t) (numbers_at s.gates t) (numbers_at s.pairs t) y z world behind) where
-      round : List Act
-      round = gates_act (gates_at c.ops (numbers_at s.gates t)) ++ (grows.return_jobs ++ (grows.arrival_jobs ++ Rydberg (pairs_at c.ops (numbers_at s.pairs t)) ∷ []))
+      round : List Todo
+      round = gates_todo (gates_at c.ops (numbers_at s.gates t)) ++ (grows.return_jobs ++ (grows.arrival_jobs ++ Rydberg (pairs_at c.ops (numbers_at s.pairs t)) ∷ []))
 
       then : List TrapId
       then = after_arrivals a c.ops (rests_in world) (pulse_before s.pairs t) (numbers_at s.pairs t) grows.chosen
@@ -249,151 +230,186 @@ module _ (a : Architecture) (c : NativeCircuit) (s : Staging) (rules : KeepsRule
         chosen = grows.right;
         return_jobs = grows.return_jobs;
         arrival_jobs = grows.arrival_jobs;
-        returned = are_jobs a (returns c.ops (rests_in world) (pulse_before s.pairs t) grows.chosen) grows.return_jobs grows.returned;
-        arrived = are_jobs a (arrivals a (after_returns c.ops (rests_in world) (pulse_before s.pairs t) grows.chosen) (pairs_at c.ops (numbers_at s.pairs t)) grows.chosen.sites) grows.arrival_jobs grows.arrived;
-        acts_are = refl;
+        returned = grows.returned;
+        arrived = grows.arrived;
+        todo_is = refl;
       }
 
-      leads_on : IsPart a (rests_in world) round then
+      leads_on : LeadOn a (rests_in world) round then
       unfolding round then
       leads_on =
-          round_part a rules c.qubits c.bits c.ops in_range keeps goes fit (rests_in world) (pulse_before s.pairs t) (numbers_at s.gates t) (numbers_at s.pairs t) grows.chosen
+          round_part a rules c.qubits c.bits c.ops in_range keeps laws fit (rests_in world) (pulse_before s.pairs t) (numbers_at s.gates t) (numbers_at s.pairs t) grows.chosen
           (fits_before t (omega arith)) (fits_now t within) does.seats grows.right grows.return_jobs grows.arrival_jobs does.sound grows.returned grows.arrived
 
       seats_then : AreSeated a c.qubits then (pairs_at c.ops (numbers_at s.pairs t))
       unfolding then
       seats_then =
-          seated_next a rules c.qubits c.bits c.ops in_range keeps goes fit (rests_in world) (pulse_before s.pairs t) (numbers_at s.gates t) (numbers_at s.pairs t) grows.chosen
+          seated_next a rules c.qubits c.bits c.ops in_range keeps laws fit (rests_in world) (pulse_before s.pairs t) (numbers_at s.gates t) (numbers_at s.pairs t) grows.chosen
           (fits_before t (omega arith)) (fits_now t within) does.seats grows.right
 
-      left_more : (rest : List Act) → AreRounds a c.ops then (numbers_at s.pairs t) (drop (t + 1) s.gates) (drop (t + 1) s.pairs) rest →
-          AreRounds a c.ops homes [] s.gates s.pairs ((does.acts ++ round) ++ rest)
+      left_more : (rest : List Todo) → AreRounds a c.ops then (numbers_at s.pairs t) (drop (t + 1) s.gates) (drop (t + 1) s.pairs) rest →
+          AreRounds a c.ops homes [] s.gates s.pairs ((y.todo.items ++ round) ++ rest)
       unfolding then
       left_more rest are =
           let now : AreRounds a c.ops (rests_in world) (pulse_before s.pairs t) (numbers_at s.gates t ∷ drop (t + 1) s.gates) (numbers_at s.pairs t ∷ drop (t + 1) s.pairs) (round ++ rest) =
           (grows.chosen, round, rest, refl, is_round, are) in
-          subst (λ (l : List Act). AreRounds a c.ops homes [] s.gates s.pairs l) (sym (append_assoc does.acts round rest))
+          subst (λ (l : List Todo). AreRounds a c.ops homes [] s.gates s.pairs l) (sym (append_assoc y.todo.items round rest))
           (does.left (round ++ rest)
           (subst (λ (l : List (List ℕ)). AreRounds a c.ops (rests_in world) (pulse_before s.pairs t) l (drop t s.pairs) (round ++ rest)) (sym slots_next)
           (subst (λ (l : List (List ℕ)). AreRounds a c.ops (rests_in world) (pulse_before s.pairs t) (numbers_at s.gates t ∷ drop (t + 1) s.gates) l (round ++ rest)) (sym pulses_next) now)))
 
-      grows_on : GoesOn a.figures y z round
+      grows_on : GoesOn y z round
       unfolding round
       grows_on = grows.goes_on
 
-      pub does_more : z.now ≤ y.now + 8000000000 * length (pulse_before s.pairs t) + 1000000000 * length (numbers_at s.gates t) + 8000000000 * length (numbers_at s.pairs t) + 1000000000 →
-          DoesRounds a c s homes x z behind (t + 1)
-      does_more most =
+      counts : (length round ≤ 2 + 2 * length (pulse_before s.pairs t) + 2 * length (numbers_at s.pairs t))
+          × (steps_in_all round ≤ length (numbers_at s.gates t) + 8 * length (pulse_before s.pairs t) + 8 * length (numbers_at s.pairs t) + 1)
+      unfolding round
+      counts =
+          round_few a c.ops (rests_in world) (pulse_before s.pairs t) (numbers_at s.gates t) (numbers_at s.pairs t) grows.chosen grows.return_jobs grows.arrival_jobs
+          grows.returned grows.arrived
+
+      pub does_more : DoesRounds a c s homes z behind (t + 1)
+      does_more =
           let before : List ℕ = numbers_at s.pairs t in
           let next = next_before s.pairs t in
-          let there = part_append a homes (rests_in world) then does.acts round does.part leads_on in
+          let there = lead_append a homes (rests_in world) then y.todo.items round does.lead leads_on in
+          let added : z.todo.items ≡ y.todo.items ++ round = grows_on.added in
+          let some = pulse_some t before (numbers_found s.pairs t within) in
           record {
-            acts = does.acts ++ round;
-            goes_on = goes_on_append a.figures x y z does.acts round does.goes_on grows_on;
+            fits = subst (AllByRecursion FitsOnEach) (sym added) (all-append FitsOnEach y.todo.items round does.fits grows_on.fits);
             its_card = ap (λ (w : Places). w.architecture) grows.moved;
             seats =
                 subst (λ (l : List TrapId). AreSeated a c.qubits l (pairs_at c.ops (pulse_before s.pairs (t + 1)))) (sym rests_then)
                 (subst (λ (l : List ℕ). AreSeated a c.qubits then (pairs_at c.ops l)) (sym next) seats_then);
             left = λ rest are.
-                left_more rest
+                subst (λ (l : List Todo). AreRounds a c.ops homes [] s.gates s.pairs (l ++ rest)) (sym added)
+                (left_more rest
                 (subst (λ (l : List ℕ). AreRounds a c.ops then l (drop (t + 1) s.gates) (drop (t + 1) s.pairs) rest) next
-                (subst (λ (l : List TrapId). AreRounds a c.ops l (pulse_before s.pairs (t + 1)) (drop (t + 1) s.gates) (drop (t + 1) s.pairs) rest) rests_then are));
-            part = subst (λ (l : List TrapId). IsPart a homes (does.acts ++ round) l) (sym rests_then) there;
+                (subst (λ (l : List TrapId). AreRounds a c.ops l (pulse_before s.pairs (t + 1)) (drop (t + 1) s.gates) (drop (t + 1) s.pairs) rest) rests_then are)));
+            lead =
+                subst (λ (l : List Todo). LeadOn a homes l (rests_in behind)) (sym added)
+                (subst (λ (l : List TrapId). LeadOn a homes (y.todo.items ++ round) l) (sym rests_then) there);
             sound =
                 subst (λ (l : List TrapId). IsSound a (opening a l)) (sym rests_then)
-                (sound_after a rules c.qubits c.bits c.ops in_range keeps (rests_in world) then round does.sound leads_on);
-            most =
-                let so_far = does.most in
-                let some = pulse_some t before (numbers_found s.pairs t within) in
-                let few = ap length next in
-                omega (arith, size_slots, size_pulses);
+                (sound_after a rules c.qubits c.bits c.ops in_range keeps laws (rests_in world) then round does.sound leads_on);
+            few =
+                omega (
+                  arith,
+                  does.few,
+                  counts.0,
+                  some,
+                  ap (λ (l : List ℕ). length l) next,
+                  ap (λ (l : List Todo). length l) added,
+                  length-append y.todo.items round,
+                  size_pulses,
+                );
+            few_steps =
+                omega (
+                  arith,
+                  does.few_steps,
+                  counts.1,
+                  some,
+                  ap (λ (l : List ℕ). length l) next,
+                  ap (λ (l : List Todo). steps_in_all l) added,
+                  steps-append y.todo.items round,
+                  size_slots,
+                  size_pulses,
+                );
           }
 
-  -- what is promised of the instructions of a plan
-  pub record IsWholePlan (instrs : List Instr) : Type 0 where
-    pub does : IsPlan a c s.gates s.pairs (map (λ i. i.act) instrs)
-    pub safe : IsSafeChain a c instrs
-    pub ends : end_of 0 instrs ≤ 4000000000000000000
-    pub in_range : ActsFit instrs
+  -- what is promised of the agenda of a plan
+  pub record IsWholePlan (homes : List TrapId) (todo : List Todo) : Type 0 where
+    pub plan : IsPlan a c homes s.gates s.pairs todo
+    pub behind : List TrapId
+    pub lead : LeadOn a homes todo behind
+    pub in_range : AllByRecursion FitsOnEach todo
+    pub few : length todo ≤ 2000000
+    pub few_steps : steps_in_all todo ≤ 16000000
 
-  module _ (at_home : List TrapId) (x y z : Timeline) (world : Places) (t : ℕ) (these : List ℕ) (does : DoesRounds a c s at_home x y world t)
-      (all_done : t ≡ length s.pairs) (gates : slice_get s.gates t ≡ Some these) where
-    -- there is time for the last gates
-    pub room_for_gates : x.now ≡ 0 → length c.ops ≤ 786432 → y.now + 1000000000 * length these ≤ 20000000000000000
-    room_for_gates now few =
-        let most = does.most in
-        let size_slots : size (drop t s.gates) ≡ length these + size (drop (t + 1) s.gates) = ap size (drop_at s.gates t these gates) in
-        let ops : length s.circuit.ops ≡ length c.ops = ap (λ (d : NativeCircuit). length d.ops) of.circuit in
-        omega (arith, gates_most s of.right, pairs_most s of.right)
+  module _ (at_home : List TrapId) (y behind_gates z : Agenda) (world : Places) (t : ℕ) (these : List ℕ) (does : DoesRounds a c s at_home y world t)
+      (all_done : t ≡ length s.pairs) (gates : slice_get s.gates t ≡ Some these)
+      (gates_on : GoesOn y behind_gates (gates_todo (gates_at c.ops these))) (readout_on : GoesOn behind_gates z (reads_todo (reads_in c.ops)))
+      (keeps : (s : State) (steps : List Step) → IsSound a s → IsLegalRun a s steps → IsSound a (after_all s steps)) where
+    last_gates : List Todo
+    last_gates = gates_todo (gates_at c.ops these)
+
+    readout : List Todo
+    readout = reads_todo (reads_in c.ops)
 
     -- all rounds and the last gates
-    rounds : List Act
-    rounds = does.acts ++ gates_act (gates_at c.ops these)
+    rounds : List Todo
+    rounds = y.todo.items ++ last_gates
 
     are_all : AreRounds a c.ops at_home [] s.gates s.pairs rounds
-    unfolding rounds
+    unfolding rounds last_gates
     are_all =
         let before : List ℕ = pulse_before s.pairs t in
         let count : length s.gates ≡ length s.pairs + 1 = slots_longer in
         let no_slot : drop t s.gates ≡ these ∷ [] = drop_at s.gates t these gates ∙ ap (λ (l : List (List ℕ)). these ∷ l) (drop_all (t + 1) s.gates (omega arith)) in
         let no_pulse : drop t s.pairs ≡ [] = drop_all t s.pairs (omega arith) in
-        let last : AreRounds a c.ops (rests_in world) before (these ∷ []) [] (gates_act (gates_at c.ops these)) = ([], sym (append-nil (gates_act (gates_at c.ops these))), refl) in
-        does.left (gates_act (gates_at c.ops these))
-        (subst (λ (l : List (List ℕ)). AreRounds a c.ops (rests_in world) before l (drop t s.pairs) (gates_act (gates_at c.ops these))) (sym no_slot)
-        (subst (λ (l : List (List ℕ)). AreRounds a c.ops (rests_in world) before (these ∷ []) l (gates_act (gates_at c.ops these))) (sym no_pulse) last))
+        let last : AreRounds a c.ops (rests_in world) before (these ∷ []) [] (gates_todo (gates_at c.ops these)) = ([], sym (append-nil (gates_todo (gates_at c.ops these))), refl) in
+        does.left (gates_todo (gates_at c.ops these))
+        (subst (λ (l : List (List ℕ)). AreRounds a c.ops (rests_in world) before l (drop t s.pairs) (gates_todo (gates_at c.ops these))) (sym no_slot)
+        (subst (λ (l : List (List ℕ)). AreRounds a c.ops (rests_in world) before (these ∷ []) l (gates_todo (gates_at c.ops these))) (sym no_pulse) last))
 
-    module _ (first : x.instrs.items ≡ (record { begin = 0; end = 0; act = Init at_home }) ∷ []) (now : x.now ≡ 0)
-        (behind_gates : Timeline) (gates_on : GoesOn a.figures y behind_gates (gates_act (gates_at c.ops these)))
-        (readout_on : GoesOn a.figures behind_gates z (reads_act (reads_in c.ops)))
-        (keeps : (s : State) (steps : List Step) → IsSound a s → IsLegalRun a s steps → IsSound a (after_all s steps)) where
-      grows : GoesOn a.figures x z (does.acts ++ (gates_act (gates_at c.ops these) ++ reads_act (reads_in c.ops)))
-      grows =
-          goes_on_append a.figures x y z does.acts (gates_act (gates_at c.ops these) ++ reads_act (reads_in c.ops)) does.goes_on
-          (goes_on_append a.figures y behind_gates z (gates_act (gates_at c.ops these)) (reads_act (reads_in c.ops)) gates_on readout_on)
+    whole : z.todo.items ≡ rounds ++ readout
+    unfolding rounds last_gates readout
+    whole = readout_on.added ∙ ap (λ (l : List Todo). l ++ reads_todo (reads_in c.ops)) gates_on.added
 
-      all_acts : does.acts ++ (gates_act (gates_at c.ops these) ++ reads_act (reads_in c.ops)) ≡ rounds ++ reads_act (reads_in c.ops)
-      unfolding rounds
-      all_acts = sym (append_assoc does.acts (gates_act (gates_at c.ops these)) (reads_act (reads_in c.ops)))
+    whole_lead : LeadOn a at_home (rounds ++ readout) (rests_in world)
+    unfolding rounds last_gates readout
+    whole_lead =
+        let last : List TrapId = rests_in world in
+        lead_append a at_home last last (y.todo.items ++ gates_todo (gates_at c.ops these)) (reads_todo (reads_in c.ops))
+        (lead_append a at_home last last y.todo.items (gates_todo (gates_at c.ops these)) does.lead
+        (slot_part a rules c.qubits c.bits c.ops in_range keeps last does.seats.well.long these))
+        (readout_part a rules c.qubits c.bits c.ops in_range keeps last does.seats.well.long)
 
-      whole_part : IsPart a at_home (rounds ++ reads_act (reads_in c.ops)) (rests_in world)
-      whole_part =
-          let last : List TrapId = rests_in world in
-          subst (λ (l : List Act). IsPart a at_home l last) all_acts
-          (part_append a at_home last last does.acts (gates_act (gates_at c.ops these) ++ reads_act (reads_in c.ops)) does.part
-          (part_append a last last last (gates_act (gates_at c.ops these)) (reads_act (reads_in c.ops))
-          (slot_part a rules c.qubits c.bits c.ops in_range keeps last does.seats.well.long these)
-          (readout_part a rules c.qubits c.bits c.ops in_range keeps last does.seats.well.long)))
+    whole_fits : AllByRecursion FitsOnEach (rounds ++ readout)
+    unfolding rounds last_gates readout
+    whole_fits =
+        all-append FitsOnEach (y.todo.items ++ gates_todo (gates_at c.ops these)) (reads_todo (reads_in c.ops))
+        (all-append FitsOnEach y.todo.items (gates_todo (gates_at c.ops these)) does.fits gates_on.fits) readout_on.fits
 
-      whole : z.instrs.items ≡ (record { begin = 0; end = 0; act = Init at_home }) ∷ grows.added
-      whole = grows.instrs ∙ ap (λ (l : List Instr). l ++ grows.added) first
+    slots_left : size (drop t s.gates) ≡ length these + size (drop (t + 1) s.gates)
+    slots_left = ap size (drop_at s.gates t these gates)
 
-      does_plan : map (λ i. i.act) z.instrs.items ≡ Init at_home ∷ (rounds ++ reads_act (reads_in c.ops))
-      does_plan =
-          ap (λ (l : List Instr). map (λ (i : Instr). i.act) l) whole
-          ∙ ap (λ (l : List Act). Init at_home ∷ l) (grows.does ∙ all_acts)
+    whole_few : pairs_in c.ops ≤ 262144 → length c.ops ≤ 786432 → (length (rounds ++ readout) ≤ 2000000) × (steps_in_all (rounds ++ readout) ≤ 16000000)
+    unfolding rounds last_gates readout
+    whole_few few_pairs few_ops =
+        let ones : List Todo = gates_todo (gates_at c.ops these) in
+        let reads : List Todo = reads_todo (reads_in c.ops) in
+        let of_gates = gates_few (gates_at c.ops these) in
+        let of_reads = reads_few (reads_in c.ops) in
+        let pairs : size s.pairs ≤ pairs_in c.ops = subst (λ (d : NativeCircuit). size s.pairs ≤ pairs_in d.ops) of.circuit (pairs_are_few s of.right) in
+        let slots : size s.gates ≤ length c.ops = subst (λ (d : NativeCircuit). size s.gates ≤ length d.ops) of.circuit (gates_most s of.right) in (
+          omega (arith, does.few, of_gates.0, of_reads.0, pairs, length-append (y.todo.items ++ ones) reads, length-append y.todo.items ones),
+          omega (
+            arith,
+            does.few_steps,
+            of_gates.1,
+            of_reads.1,
+            pairs,
+            slots,
+            slots_left,
+            gates_at_few c.ops these,
+            steps-append (y.todo.items ++ ones) reads,
+            steps-append y.todo.items ones,
+          ),
+        )
 
-      is_chain : IsChain a.figures 0 z.instrs.items
-      is_chain =
-          let rest : IsChain a.figures 0 grows.added = subst (λ (n : ℕ). IsChain a.figures n grows.added) now grows.chain in
-          subst (λ (l : List Instr). IsChain a.figures 0 l) (sym whole) (refl, (0, refl, refl), rest)
-
-      -- the last ends where the timeline has come to
-      ends_now : end_of 0 z.instrs.items ≡ z.now
-      ends_now = ap (λ (l : List Instr). end_of 0 l) whole ∙ sym (grows.now ∙ ap (λ n. end_of n grows.added) now)
-
-      all_fit : AreApartInStorage a c.qubits at_home → ActsFit z.instrs.items
-      all_fit apart =
-          subst ActsFit (sym whole)
-          (homes_fit a rules at_home apart.in_storage, fits_mapped grows.added (subst (AllByRecursion ActFits) (sym grows.does) grows.fits))
-
-      -- all that is promised of the instructions
-      pub whole_plan : AreHomesByUse a c at_home → AreApartInStorage a c.qubits at_home → HasFigureRanges a.figures → length c.ops ≤ 786432 → behind_gates.now ≤ y.now + 1000000000 * length these → z.now ≤ behind_gates.now + 1000000000 → IsWholePlan z.instrs.items
-      whole_plan by_use apart ranges few gates_most readout_most = record {
-        does = record { homes = at_home; homes_are = by_use; rounds = rounds; rounds_are = are_all; acts_are = does_plan };
-        safe = plan_is_safe a c s of at_home rounds are_all (rests_in world) whole_part z.instrs.items ranges is_chain (are_homes a c.qubits at_home apart) does_plan;
-        ends = omega (arith, ends_now, room_for_gates now few);
-        in_range = all_fit apart;
-      }
+    -- all that is promised of the agenda
+    pub whole_plan : pairs_in c.ops ≤ 262144 → length c.ops ≤ 786432 → IsWholePlan at_home z.todo.items
+    unfolding readout
+    whole_plan few_pairs few_ops = record {
+      plan = record { rounds = rounds; rounds_are = are_all; todo_is = whole };
+      behind = rests_in world;
+      lead = subst (λ (l : List Todo). LeadOn a at_home l (rests_in world)) (sym whole) whole_lead;
+      in_range = subst (AllByRecursion FitsOnEach) (sym whole) whole_fits;
+      few = subst (λ (l : List Todo). length l ≤ 2000000) (sym whole) (whole_few few_pairs few_ops).0;
+      few_steps = subst (λ (l : List Todo). steps_in_all l ≤ 16000000) (sym whole) (whole_few few_pairs few_ops).1;
+    }
 
 -- The stages of a circuit for as many pairs as there are sites, by the laws of right stages.
 pub staging_of : (a : Architecture) (c : NativeCircuit) (s : Staging) → IsStaging s → s.circuit ≡ c → s.sites ≡ site_count a → NumbersFollow s.circuit.ops s.numbers →

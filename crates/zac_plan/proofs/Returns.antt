@@ -11,7 +11,7 @@ use Rattle.zac_place.specs.Placing.{IsLeastPlacing, IsPlacing}
 use Rattle.zac_place.specs.Returns.{return_cost}
 use Rattle.zac_world.specs.Places.{Places, empty_storage}
 use Rattle.zair_form.specs.declared.step.PairOf.{PairOf}
-use Rattle.zac_plan.specs.declared.timeline.Timeline.{Timeline}
+use Rattle.zac_plan.specs.declared.agenda.Agenda.{Agenda}
 use Rattle.zac_plan.specs.Growth.{GrowsByJobs, GrowsByReturns}
 use Rattle.zac_plan.specs.Plan.{after_shifts, leaving, places, qubits_of, shifts_to, stays}
 use Rattle.zac_plan.specs.Seats.{CanMake, CanReturn, rests_in}
@@ -81,8 +81,8 @@ module _ (a : Architecture) (ops : List Op) (p : Places) (before : List PairOf) 
     pub ends_home : All (λ s. s.to.0 < trap_count p.architecture) shifts
     ends_home = subst (λ (b : Architecture). All (λ (s : Shift). s.to.0 < trap_count b) shifts) (sym its_card) (phase_in a shifts phase_home)
 
-    -- where they are the nearest ones, a timeline grows by their jobs, and the world is as behind them
-    pub grows_home : (old new : Timeline) (to : Places) → IsLeastPlacing (return_cost p qubits) (empty_storage p) (length qubits) targets →
+    -- where they are the nearest ones, an agenda grows by their jobs, and the world is as behind them
+    pub grows_home : (old new : Agenda) (to : Places) → IsLeastPlacing (return_cost p qubits) (empty_storage p) (length qubits) targets →
         to ≡ places p.architecture (after_shifts (rests_in p) shifts) → GrowsByJobs a old new shifts → GrowsByReturns a ops before kept old new p to
     grows_home old new to least made grows = record {
       targets = targets;

@@ -13,7 +13,7 @@ use Rattle.zac_place.specs.Placing.{IsLeastPlacing}
 use Rattle.zac_reuse.specs.Keeping.{IsGreatest, IsKeeping, MayKeep}
 use Rattle.zac_world.specs.Places.{Places}
 use Rattle.zair_form.specs.declared.step.PairOf.{PairOf}
-use Rattle.zac_plan.specs.declared.timeline.Timeline.{Timeline}
+use Rattle.zac_plan.specs.declared.agenda.Agenda.{Agenda}
 use Rattle.zac_plan.specs.Growth.{GrowsByReturns, IsSentHome, numbers_at, pulse_before}
 use Rattle.zac_plan.specs.Seats.{CanReturn}
 use Rattle.zac_plan.proofs.Growing.{goes_nowhere}
@@ -54,7 +54,7 @@ least_of_none cost offered = record {
 }
 
 -- nothing leaves where no pulse is before
-pub none_leave : (a : Architecture) (ops : List Op) (pulse : List ℕ) (t : Timeline) (world : Places) → world.architecture ≡ a → IsSentHome a ops [] pulse t t world world
+pub none_leave : (a : Architecture) (ops : List Op) (pulse : List ℕ) (t : Agenda) (world : Places) → world.architecture ≡ a → IsSentHome a ops [] pulse t t world world
 none_leave a ops pulse t world its_card = record {
   kept = [];
   keeping = keeps_none ops pulse;
@@ -63,15 +63,15 @@ none_leave a ops pulse t world its_card = record {
     targets = [];
     chosen = least_of_none _ _;
     grows = record {
-      acts = [];
-      are = record { groups = []; grouping = no_groups a; jobs = refl; sound = tt };
-      goes_on = goes_nowhere a.figures t;
+      jobs = [];
+      are = record { groups = []; grouping = no_groups a; jobs = refl };
+      goes_on = goes_nowhere t;
     };
     moved = sym (places_of_world a world its_card);
   };
 }
 
-pub none_leave_at_first : (a : Architecture) (ops : List Op) (pulses : List (List ℕ)) (k : ℕ) (pulse : List ℕ) (t : Timeline) (world : Places) → k ≡ 0 → world.architecture ≡ a →
+pub none_leave_at_first : (a : Architecture) (ops : List Op) (pulses : List (List ℕ)) (k : ℕ) (pulse : List ℕ) (t : Agenda) (world : Places) → k ≡ 0 → world.architecture ≡ a →
     IsSentHome a ops (pulse_before pulses k) pulse t t world world
 none_leave_at_first a ops pulses k pulse t world first its_card =
     subst (λ n. IsSentHome a ops (pulse_before pulses n) pulse t t world world) (sym first) (none_leave a ops pulse t world its_card)
@@ -105,7 +105,7 @@ module _ (a : Architecture) (ops these : List Op) (before those : List PairOf) (
       subst (λ (l : List Op). CanReturn a l rests those chosen) (sym same_ops)
       (subst (λ (l : List PairOf). CanReturn a ops rests l chosen) (sym same_pairs) (subst (CanReturn a ops rests before) (sym same_kept) h))
 
-  pub grows_by_names : (old new : Timeline) (from to : Places) → GrowsByReturns a these those chosen old new from to → GrowsByReturns a ops before kept old new from to
+  pub grows_by_names : (old new : Agenda) (from to : Places) → GrowsByReturns a these those chosen old new from to → GrowsByReturns a ops before kept old new from to
   grows_by_names old new from to h =
       subst (λ (l : List (ℕ × ℕ)). GrowsByReturns a ops before l old new from to) same_kept
       (subst (λ (l : List PairOf). GrowsByReturns a ops l chosen old new from to) same_pairs (subst (λ (l : List Op). GrowsByReturns a l those chosen old new from to) same_ops h))

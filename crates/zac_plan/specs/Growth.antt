@@ -1,88 +1,71 @@
--- Inside: how a timeline grows while a circuit is planned.
-use Rattle.std.specs.Prelude.{◌≡◌, ℕ, zero, suc, ◌+◌, ◌≤◌, List, [], ◌∷◌, ◌++◌, length, map}
+-- Inside: how an agenda grows while a circuit is planned.
+use Rattle.std.specs.Prelude.{◌≡◌, ℕ, zero, suc, ◌+◌, ◌≤◌, List, [], ◌∷◌, ◌++◌, length}
 use Rattle.std.specs.List.{AllByRecursion, slice_index_or}
-use Rattle.zac_aod.specs.Lowering.{job_steps}
-use Rattle.zac_aod.specs.Soundness.{IsSoundJob}
 use Rattle.zac_arch.specs.Architecture.{Architecture, site_count}
-use Rattle.zac_arch.specs.declared.card.Figures.{Figures}
 use Rattle.zac_gates.specs.Ops.{NativeCircuit}
 use Rattle.zac_gates.specs.declared.circuit.Op.{Op}
-use Rattle.zac_group.specs.FirstFit.{IsGrouping}
 use Rattle.zac_group.specs.Groups.{MoveGroup}
 use Rattle.zac_group.specs.declared.shift.Shift.{Shift}
 use Rattle.zac_stage.specs.Numbers.{NumbersFollow}
 use Rattle.zac_stage.specs.Staging.{Staging, IsStaging}
-use Rattle.zair_form.specs.Ranges.{ActFits}
+use Rattle.zair_form.specs.Ranges.{ActFits, IsId}
 use Rattle.zair_form.specs.declared.step.PairOf.{PairOf}
-use Rattle.zair_form.specs.declared.program.Act.{Act}
-use Rattle.zair_form.specs.declared.program.Act.TheVariants.{Rydberg}
-use Rattle.zair_form.specs.declared.program.Instr.{Instr}
-use Rattle.zac_plan.specs.Plan.{AreGateSites, AreReturns, IsRearrangement, Rearrangement, after_arrivals, after_returns, after_shifts, arrivals, gates_act, gates_at, job_of, leaving, pairs_at, places, returns, shifts_to}
+use Rattle.zac_sched.specs.Todos.{act_on}
+use Rattle.zac_sched.specs.declared.todo.Todo.{Todo}
+use Rattle.zac_sched.specs.declared.todo.Todo.TheVariants.{Rydberg}
+use Rattle.zac_plan.specs.Plan.{AreGateSites, AreJobs, AreReturns, IsRearrangement, Rearrangement, after_arrivals, after_returns, after_shifts, arrivals, gates_at, gates_todo, leaving, pairs_at, places, returns, shifts_to}
 use Rattle.zac_plan.specs.Seats.{rests_in}
 use Rattle.zac_reuse.specs.Keeping.{IsGreatest, IsKeeping}
 use Rattle.zac_world.specs.Places.{Places}
-use Rattle.zac_plan.specs.declared.timeline.Timeline.{Timeline}
-use Rattle.zair_state.specs.Chain.{IsChain, end_of}
+use Rattle.zac_plan.specs.declared.agenda.Agenda.{Agenda}
 
--- A timeline has grown by instructions that do exactly these acts, without a pause from where it stood, and stands now
--- where the last of them ends. What the acts carry is in range.
-pub record GoesOn (f : Figures) (old new : Timeline) (acts : List Act) : Type 0 where
-  pub added : List Instr
-  pub instrs : new.instrs.items ≡ old.instrs.items ++ added
-  pub does : map (λ i. i.act) added ≡ acts
-  pub chain : IsChain f old.now added
-  pub now : new.now ≡ end_of old.now added
-  pub fits : AllByRecursion ActFits acts
+-- Whichever AOD makes it, what the act carries is in range.
+abbrev pub FitsOnEach : Todo → Type 0
+FitsOnEach todo = (aod : ℕ) → IsId aod → ActFits (act_on aod todo)
 
--- The job of a group is sound from every state in which it can begin.
-abbrev pub IsSoundGroup : Architecture → MoveGroup → Type 0
-IsSoundGroup a g = IsSoundJob a g.shifts 0 (job_steps a g.shifts 0)
+-- An agenda has grown by just this, and all that it carries is in range.
+pub record GoesOn (old new : Agenda) (todo : List Todo) : Type 0 where
+  pub added : new.todo.items ≡ old.todo.items ++ todo
+  pub fits : AllByRecursion FitsOnEach todo
 
--- The acts are the jobs of a phase of moves, each of them sound.
-pub record AreSoundJobs (a : Architecture) (shifts : List Shift) (acts : List Act) : Type 0 where
-  pub groups : List MoveGroup
-  pub grouping : IsGrouping a shifts groups
-  pub jobs : acts ≡ map (job_of a) groups
-  pub sound : AllByRecursion (IsSoundGroup a) groups
+-- An agenda has grown by the jobs of a phase of moves.
+pub record GrowsByJobs (a : Architecture) (old new : Agenda) (shifts : List Shift) : Type 0 where
+  pub jobs : List Todo
+  pub are : AreJobs a shifts jobs
+  pub goes_on : GoesOn old new jobs
 
--- A timeline has grown by the jobs of a phase of moves.
-pub record GrowsByJobs (a : Architecture) (old new : Timeline) (shifts : List Shift) : Type 0 where
-  pub acts : List Act
-  pub are : AreSoundJobs a shifts acts
-  pub goes_on : GoesOn a.figures old new acts
-
--- A timeline has grown by the jobs that bring home what leaves the sites, and the world is as behind them.
-pub record GrowsByReturns (a : Architecture) (ops : List Op) (before : List PairOf) (kept : List (ℕ × ℕ)) (old new : Timeline) (from to : Places) : Type 0 where
+-- An agenda has grown by the jobs that bring home what leaves the sites, and the world is as behind them.
+pub record GrowsByReturns (a : Architecture) (ops : List Op) (before : List PairOf) (kept : List (ℕ × ℕ)) (old new : Agenda) (from to : Places) : Type 0 where
   pub targets : List ℕ
   pub chosen : AreReturns a (rests_in from) (leaving ops before kept) targets
   pub grows : GrowsByJobs a old new (shifts_to (rests_in from) (leaving ops before kept) targets)
   pub moved : to ≡ places a (after_shifts (rests_in from) (shifts_to (rests_in from) (leaving ops before kept) targets))
 
--- A timeline has grown by the jobs that bring the atoms of a pulse together, and the world is as behind them.
-pub record GrowsByArrivals (a : Architecture) (pairs : List PairOf) (old new : Timeline) (from to : Places) : Type 0 where
+-- An agenda has grown by the jobs that bring the atoms of a pulse together, and the world is as behind them.
+pub record GrowsByArrivals (a : Architecture) (pairs : List PairOf) (old new : Agenda) (from to : Places) : Type 0 where
   pub sites : List ℕ
   pub chosen : AreGateSites a (rests_in from) pairs sites
   pub grows : GrowsByJobs a old new (arrivals a (rests_in from) pairs sites)
   pub moved : to ≡ places a (after_shifts (rests_in from) (arrivals a (rests_in from) pairs sites))
 
--- A timeline has grown by the jobs that bring home what leaves the sites between two pulses, where a greatest set of
+-- An agenda has grown by the jobs that bring home what leaves the sites between two pulses, where a greatest set of
 -- gates is kept.
-pub record IsSentHome (a : Architecture) (ops : List Op) (before pulse : List ℕ) (old new : Timeline) (from to : Places) : Type 0 where
+pub record IsSentHome (a : Architecture) (ops : List Op) (before pulse : List ℕ) (old new : Agenda) (from to : Places) : Type 0 where
   pub kept : List (ℕ × ℕ)
   pub keeping : IsKeeping ops before pulse kept
   pub greatest : IsGreatest ops before pulse kept
   pub grows : GrowsByReturns a ops (pairs_at ops before) kept old new from to
 
--- A timeline has grown by what is done with a pulse, and the world is as in the pulse.
-pub record GrowsByRound (a : Architecture) (ops : List Op) (before slot pulse : List ℕ) (old new : Timeline) (from to : Places) : Type 0 where
+-- An agenda has grown by what is done with a pulse, and the world is as in the pulse.
+pub record GrowsByRound (a : Architecture) (ops : List Op) (before slot pulse : List ℕ) (old new : Agenda) (from to : Places) : Type 0 where
   pub chosen : Rearrangement
   pub right : IsRearrangement a ops (rests_in from) before pulse chosen
-  pub return_jobs : List Act
-  pub arrival_jobs : List Act
-  pub returned : AreSoundJobs a (returns ops (rests_in from) before chosen) return_jobs
-  pub arrived : AreSoundJobs a (arrivals a (after_returns ops (rests_in from) before chosen) (pairs_at ops pulse) chosen.sites) arrival_jobs
-  pub goes_on : GoesOn a.figures old new
-      (gates_act (gates_at ops slot) ++ (return_jobs ++ (arrival_jobs ++ Rydberg (pairs_at ops pulse) ∷ [])))
+  pub return_jobs : List Todo
+  pub arrival_jobs : List Todo
+  pub returned : AreJobs a (returns ops (rests_in from) before chosen) return_jobs
+  pub arrived : AreJobs a (arrivals a (after_returns ops (rests_in from) before chosen) (pairs_at ops pulse) chosen.sites) arrival_jobs
+  pub goes_on : GoesOn old new
+      (gates_todo (gates_at ops slot) ++ (return_jobs ++ (arrival_jobs ++ Rydberg (pairs_at ops pulse) ∷ [])))
   pub moved : to ≡ places a (after_arrivals a ops (rests_in from) before pulse chosen)
 
 -- The numbers of the ops of this slot or pulse; none where there is no such.
@@ -98,10 +81,6 @@ pulse_before pulses (suc t) = numbers_at pulses t
 abbrev pub moves_in : List MoveGroup → ℕ
 moves_in [] = 0
 moves_in (g ∷ gs) = length g.shifts + moves_in gs
-
--- What each instruction carries is in range.
-abbrev pub ActsFit : List Instr → Type 0
-ActsFit instrs = AllByRecursion (λ i. ActFits i.act) instrs
 
 -- These are the stages of the circuit for pulses of at most as many pairs as the card has sites. The numbers follow
 -- what must follow, and each pulse has a pair and at most as many pairs as there are sites.

@@ -1,3 +1,4 @@
 pub mod Growth
+pub mod Leading
 pub mod Plan
 pub mod Seats

@@ -1,8 +1,7 @@
--- The plan of a circuit: which instructions come, and what each does.
-use Rattle.std.specs.Prelude.{◌≡◌, ℕ, ◌-◌, ◌/◌, Bool, not, ◌&&◌, ◌||◌, ◌==◌, nat_lt, Option, Some, None, List, [], ◌∷◌, ◌++◌, length, map, filter, set, if◌then◌else◌}
+-- The plan of a circuit: what is to be done, and in which order.
+use Rattle.std.specs.Prelude.{◌≡◌, ℕ, suc, ◌-◌, ◌/◌, Bool, not, ◌&&◌, ◌||◌, ◌==◌, nat_lt, Option, Some, None, List, [], ◌∷◌, ◌++◌, length, map, filter, set, if◌then◌else◌}
 use Rattle.std.specs.List.{filter_map, flat_map, list_any, range_with_len, slice_get, slice_index_or}
 use Rattle.std.specs.Option.{option_and_then}
-use Rattle.zac_aod.specs.Lowering.{job_steps}
 use Rattle.zac_arch.specs.Architecture.{Architecture, site_count, storage_count, left_trap, right_trap}
 use Rattle.zac_arch.specs.declared.place.TrapId.{TrapId}
 use Rattle.zac_gates.specs.Ops.{NativeCircuit}
@@ -16,13 +15,14 @@ use Rattle.zac_place.specs.Placing.{IsLeastPlacing}
 use Rattle.zac_place.specs.Returns.{return_cost}
 use Rattle.zac_place.specs.Sites.{left_qubit, right_qubit, site_cost}
 use Rattle.zac_reuse.specs.Keeping.{IsKeeping, IsKeepableNumber}
+use Rattle.zac_sched.specs.Schedule.{IsSchedule}
+use Rattle.zac_sched.specs.declared.todo.Todo.{Todo}
+use Rattle.zac_sched.specs.declared.todo.Todo.TheVariants.{Gates, Rydberg, Job, Readout}
 use Rattle.zac_stage.specs.Staging.{Staging, IsStaging}
 use Rattle.zac_world.specs.Places.{Places, empty_storage, is_empty}
 use Rattle.zair_form.specs.declared.step.OneGate.{OneGate}
 use Rattle.zair_form.specs.declared.step.PairOf.{PairOf}
 use Rattle.zair_form.specs.declared.step.ReadOf.{ReadOf}
-use Rattle.zair_form.specs.declared.program.Act.{Act}
-use Rattle.zair_form.specs.declared.program.Act.TheVariants.{Init, Gates, Rydberg, Job, Readout}
 use Rattle.zair_form.specs.declared.program.Instr.{Instr}
 
 -- If the op of this number is a one-qubit gate, that gate.
@@ -59,25 +59,25 @@ abbrev pub reads_in : List Op → List ReadOf
 reads_in ops = filter_map (λ n. option_and_then (read_of n) (slice_get ops n)) (range_with_len 0 (length ops))
 
 -- One instruction with these gates; none where there are no gates.
-abbrev pub gates_act : List OneGate → List Act
-gates_act [] = []
-gates_act (one ∷ ones) = Gates (one ∷ ones) ∷ []
+abbrev pub gates_todo : List OneGate → List Todo
+gates_todo [] = []
+gates_todo (one ∷ ones) = Gates (one ∷ ones) ∷ []
 
 -- One instruction with these reads; none where there are no reads.
-abbrev pub reads_act : List ReadOf → List Act
-reads_act [] = []
-reads_act (read ∷ reads) = Readout (read ∷ reads) ∷ []
+abbrev pub reads_todo : List ReadOf → List Todo
+reads_todo [] = []
+reads_todo (read ∷ reads) = Readout (read ∷ reads) ∷ []
 
--- The job of AOD 0 that makes the moves of a group.
-abbrev pub job_of : Architecture → MoveGroup → Act
-job_of a g = Job 0 (job_steps a g.shifts 0)
+-- The job that makes the moves of a group. Until its AOD is chosen it is one of AOD 0.
+abbrev pub job_of : Architecture → MoveGroup → Todo
+job_of a g = Job (record { card = a; shifts = g.shifts; aod = 0 })
 
--- The acts are the jobs of a phase of moves: one for each group of the moves, in the order of the groups. A phase without
+-- These are the jobs of a phase of moves: one for each group of the moves, in the order of the groups. A phase without
 -- a move has no group, so no job.
-pub record AreJobs (a : Architecture) (shifts : List Shift) (acts : List Act) : Type 0 where
+pub record AreJobs (a : Architecture) (shifts : List Shift) (todo : List Todo) : Type 0 where
   pub groups : List MoveGroup
   pub grouping : IsGrouping a shifts groups
-  pub jobs : acts ≡ map (job_of a) groups
+  pub jobs : todo ≡ map (job_of a) groups
 
 -- The trap in which a qubit rests, of the list of the traps in which the qubits rest.
 abbrev pub trap_of : List TrapId → ℕ → TrapId
@@ -233,40 +233,50 @@ pub record IsRearrangement (a : Architecture) (ops : List Op) (rests : List Trap
   pub sites : AreGateSites a (after_returns ops rests before r) (pairs_at ops pulse) r.sites
 
 -- What is done with a pulse: the gates of its slot, the jobs of the returns, the jobs of the arrivals, and the pulse.
-pub record IsRound (a : Architecture) (ops : List Op) (rests : List TrapId) (before slot pulse : List ℕ) (r : Rearrangement) (acts : List Act) : Type 0 where
+pub record IsRound (a : Architecture) (ops : List Op) (rests : List TrapId) (before slot pulse : List ℕ) (r : Rearrangement) (todo : List Todo) : Type 0 where
   pub chosen : IsRearrangement a ops rests before pulse r
-  pub return_jobs : List Act
-  pub arrival_jobs : List Act
+  pub return_jobs : List Todo
+  pub arrival_jobs : List Todo
   pub returned : AreJobs a (returns ops rests before r) return_jobs
   pub arrived : AreJobs a (arrivals a (after_returns ops rests before r) (pairs_at ops pulse) r.sites) arrival_jobs
-  pub acts_are : acts ≡ gates_act (gates_at ops slot) ++ (return_jobs ++ (arrival_jobs ++ Rydberg (pairs_at ops pulse) ∷ []))
+  pub todo_is : todo ≡ gates_todo (gates_at ops slot) ++ (return_jobs ++ (arrival_jobs ++ Rydberg (pairs_at ops pulse) ∷ []))
 
--- The acts are what is done from a pulse on, where the qubits rest so in the pulse before it: its round, then that of the
+-- This is to be done from a pulse on, where the qubits rest so in the pulse before it: its round, then that of the
 -- next pulse, and so on. Behind the last pulse come the gates of the last slot.
-abbrev pub AreRounds : Architecture → List Op → List TrapId → List ℕ → List (List ℕ) → List (List ℕ) → List Act → Type 0
-AreRounds a ops rests before [] pulses acts = acts ≡ []
-AreRounds a ops rests before (slot ∷ slots) [] acts =
-    (rest : List Act) × (acts ≡ gates_act (gates_at ops slot) ++ rest) × AreRounds a ops rests before slots [] rest
-AreRounds a ops rests before (slot ∷ slots) (pulse ∷ pulses) acts =
-    (r : Rearrangement) × (round : List Act) × (rest : List Act) × (acts ≡ round ++ rest)
+abbrev pub AreRounds : Architecture → List Op → List TrapId → List ℕ → List (List ℕ) → List (List ℕ) → List Todo → Type 0
+AreRounds a ops rests before [] pulses todo = todo ≡ []
+AreRounds a ops rests before (slot ∷ slots) [] todo =
+    (rest : List Todo) × (todo ≡ gates_todo (gates_at ops slot) ++ rest) × AreRounds a ops rests before slots [] rest
+AreRounds a ops rests before (slot ∷ slots) (pulse ∷ pulses) todo =
+    (r : Rearrangement) × (round : List Todo) × (rest : List Todo) × (todo ≡ round ++ rest)
     × IsRound a ops rests before slot pulse r round
     × AreRounds a ops (after_arrivals a ops rests before pulse r) pulse slots pulses rest
 
--- The acts are the plan of a circuit whose one-qubit gates have these slots and whose pairs have these pulses, each given
--- by the numbers of its ops: the homes, the rounds of the slots and pulses one after another, and all reads.
-pub record IsPlan (a : Architecture) (c : NativeCircuit) (slots pulses : List (List ℕ)) (acts : List Act) : Type 0 where
-  pub homes : List TrapId
-  pub homes_are : AreHomesByUse a c homes
-  pub rounds : List Act
+-- This is to be done, from these homes on, for a circuit whose one-qubit gates have these slots and whose pairs have
+-- these pulses, each given by the numbers of its ops: the rounds of the slots and pulses one after another, and all reads.
+pub record IsPlan (a : Architecture) (c : NativeCircuit) (homes : List TrapId) (slots pulses : List (List ℕ)) (todo : List Todo) : Type 0 where
+  pub rounds : List Todo
   pub rounds_are : AreRounds a c.ops homes [] slots pulses rounds
-  pub acts_are : acts ≡ Init homes ∷ (rounds ++ reads_act (reads_in c.ops))
+  pub todo_is : todo ≡ rounds ++ reads_todo (reads_in c.ops)
 
 -- A program does the plan of a circuit on a card: with the circuit's stages, for pulses of at most as many pairs as the
--- card has sites. A circuit has one numbering, moves have one grouping, and the first qubits have the first homes, so
--- between two pulses alone there is a choice: which greatest set of gates is kept, and which least ways are taken.
+-- card has sites. A circuit has one numbering, moves have one grouping, the first qubits have the first homes, and what
+-- is to be done has one schedule, so between two pulses alone there is a choice: which greatest set of gates is kept, and
+-- which least ways are taken.
 pub record IsPlanned (a : Architecture) (c : NativeCircuit) (program : List Instr) : Type 0 where
   pub stages : Staging
   pub right : IsStaging stages
   pub circuit : stages.circuit ≡ c
   pub sites : stages.sites ≡ site_count a
-  pub does : IsPlan a c stages.gates stages.pairs (map (λ i. i.act) program)
+  pub homes : List TrapId
+  pub homes_are : AreHomesByUse a c homes
+  pub todo : List Todo
+  pub plan : IsPlan a c homes stages.gates stages.pairs todo
+  -- which AODs make the jobs, and when each instruction begins
+  pub schedule : IsSchedule a homes todo program
+
+-- How many pairs there are among ops.
+abbrev pub pairs_in : List Op → ℕ
+pairs_in [] = 0
+pairs_in (op.Two q r ∷ ops) = suc (pairs_in ops)
+pairs_in (other ∷ ops) = pairs_in ops

@@ -1,28 +1,32 @@
 //! The plan of a circuit.
 
-ghost use Rattle.std.specs.Prelude.{◌≡◌, ◌<◌, ◌≤◌, ◌↔◌, ◌⊎◌, IfOk, OnOk, IfErr, map, length, [], ◌∷◌, ◌++◌};
-ghost use Rattle.zac_arch.specs.Architecture.{storage_count, site_count};
+ghost use Rattle.std.specs.Prelude.{◌≡◌, ◌<◌, ◌≤◌, ◌↔◌, ◌⊎◌, IfOk, OnOk, IfErr, List, length};
+ghost use Rattle.std.specs.List.{AllByRecursion};
+ghost use Rattle.zac_arch.specs.Architecture.{storage_count};
+ghost use Rattle.zac_arch.specs.declared.place.TrapId.{TrapId};
+ghost use Rattle.zac_place.specs.Homes.{AreApartInStorage};
+ghost use Rattle.zac_plan.specs.Growth.{FitsOnEach, IsStagingOf};
+ghost use Rattle.zac_plan.specs.Leading.{LeadOn};
+ghost use Rattle.zac_plan.specs.Plan.{IsPlan, IsPlanned, pairs_in};
+ghost use Rattle.zac_sched.specs.Exchange.{IsTidyProgram, OrdersAgree};
+ghost use Rattle.zac_sched.specs.Todos.{steps_in_all};
 ghost use Rattle.zair_form.specs.Ranges.{ProgramFits};
-ghost use Rattle.zair_state.specs.Chain.{IsChain, IsSafeChain, end_of};
 ghost use Rattle.zair_state.specs.Performs.{Performs};
-ghost use Rattle.zac_plan.specs.Growth.{ActsFit, IsStagingOf};
-ghost use Rattle.zac_plan.specs.Plan.{IsPlan, IsPlanned};
 
+use crate::agenda::Agenda;
 use crate::slots::{gates_at, reads_in};
-use crate::timeline::Timeline;
 use std::alloc::Global;
 use thiserror::Error;
-use zac_aod::job_limits;
-use zac_arch::Card;
+use zac_aod::{job_limits, job_resources, jobs_are_sound};
+use zac_arch::{Card, TrapId};
 use zac_gates::{Circuit, List, Memory};
 use zac_place::homes;
+use zac_sched::{schedule, tidy_programs_perform};
 use zac_stage::laws::{numbers_follow, pulses_are_filled};
 use zac_stage::{Stages, stage};
 use zac_world::World;
-use zair_form::{Instr, Program};
-use zair_state::{
-    chains_end_last, legal_steps_keep_states_sound, openings_are_sound, safe_chains_perform,
-};
+use zair_form::Program;
+use zair_state::{legal_steps_keep_states_sound, openings_are_sound};
 
 /// Why a circuit has no program.
 #[derive(Clone, Copy, Debug, PartialEq, Eq, Error)]
@@ -45,85 +49,99 @@ impl From<Memory> for PlanFault {
     }
 }
 
-/// The instructions of a circuit's plan, one after another.
-fn planned(
+/// What is to be done for a circuit with these stages, from these homes on.
+fn planned<'a>(
     alloc: Global,
-    card: &Card,
+    card: &'a Card,
     circuit: &Circuit,
     stages: &Stages<'_>,
-) -> Result<Vec<Instr>, Memory>
+    homes: &[TrapId],
+) -> Result<Agenda<'a>, Memory>
     requires stages { IsStagingOf card.now circuit.now stages.now }
     requires fits { circuit.now.qubits ≤ storage_count card.now }
+    requires homes { AreApartInStorage card.now circuit.now.qubits homes.now }
     requires few { length circuit.now.ops ≤ 786432 }
-    ensures does { IfOk result (λ instrs. IsPlan card.now circuit.now stages.now.gates stages.now.pairs (map (λ i. i.act) instrs.items)) }
-    ensures safe { IfOk result (λ instrs. IsSafeChain card.now circuit.now instrs.items) }
-    ensures ends { IfOk result (λ instrs. end_of 0 instrs.items ≤ 4000000000000000000) }
-    ensures in_range { IfOk result (λ instrs. ActsFit instrs.items) }
+    requires few_pairs { pairs_in circuit.now.ops ≤ 262144 }
+    ensures plan { IfOk result (λ agenda. IsPlan card.now circuit.now homes.now stages.now.gates stages.now.pairs agenda.todo.items) }
+    ensures leads { IfOk result (λ agenda. (behind : List TrapId) × LeadOn card.now homes.now agenda.todo.items behind) }
+    ensures in_range { IfOk result (λ agenda. AllByRecursion FitsOnEach agenda.todo.items) }
+    ensures few { IfOk result (λ agenda. length agenda.todo.items ≤ 2000000) }
+    ensures few_steps { IfOk result (λ agenda. steps_in_all agenda.todo.items ≤ 16000000) }
 {
     // Its contract says that the card keeps all rules.
     let _figures = card.figures();
     openings_are_sound();
     legal_steps_keep_states_sound(card);
+    jobs_are_sound(card);
     job_limits(card);
+    job_resources(card);
     let ops = circuit.ops();
-    let homes = homes(alloc, card, circuit)?;
-    let mut world = World::new(alloc, card, homes.as_slice())?;
-    let mut timeline = Timeline::starting(alloc, homes)?;
+    let mut world = World::new(alloc, card, homes)?;
+    let mut agenda = Agenda::empty(alloc);
     let pulses = stages.pulses();
     for t in 0..pulses {
-        timeline.add_round(alloc, card, &mut world, circuit, stages, t)?;
+        agenda.add_round(alloc, card, &mut world, circuit, stages, t)?;
     }
     let ones = gates_at(alloc, ops, stages.gates(pulses))?;
-    timeline.add_gates(card, ones)?;
+    agenda.add_gates(ones)?;
     let reads = reads_in(alloc, ops)?;
-    timeline.add_readout(card, reads)?;
-    Ok(timeline.instrs)
+    agenda.add_readout(reads)?;
+    Ok(agenda)
 }
 
-/// The program of these instructions, which perform the circuit.
-fn program_of(card: &Card, circuit: &Circuit, instrs: Vec<Instr>) -> Program
-    requires safe { IsSafeChain card.now circuit.now instrs.items }
-    requires ends { end_of 0 instrs.items ≤ 4000000000000000000 }
-    requires in_range { ActsFit instrs.items }
-    ensures value { result ≡ instrs.items }
-    ensures performs { Performs card.now circuit.now instrs.items }
-    ensures ranges { ProgramFits instrs.items }
+/// The program of a circuit with these stages.
+fn scheduled(
+    alloc: Global,
+    card: &Card,
+    circuit: &Circuit,
+    stages: &Stages<'_>,
+) -> Result<Program, Memory>
+    requires stages { IsStagingOf card.now circuit.now stages.now }
+    requires fits { circuit.now.qubits ≤ storage_count card.now }
+    requires few { length circuit.now.ops ≤ 786432 }
+    requires few_pairs { pairs_in circuit.now.ops ≤ 262144 }
+    ensures does { IfOk result (IsPlanned card.now circuit.now) }
+    ensures tidy { IfOk result (IsTidyProgram card.now circuit.now) }
+    ensures ranges { IfOk result ProgramFits }
 {
-    let _ = card;
-    let _ = circuit;
-    chains_end_last();
-    safe_chains_perform();
-    match Program::new(List::of(instrs)) {
-        Some(program) => program,
-        None => unreachable!(),
-    }
+    // Its contract says that the card keeps all rules.
+    let _figures = card.figures();
+    let homes = homes(alloc, card, circuit)?;
+    let agenda = planned(alloc, card, circuit, stages, homes.as_slice())?;
+    schedule(alloc, card, homes, List::of(agenda.todo))
 }
 
-/// The program of a circuit on a card, for a circuit of at most 786,432 ops. Zones, pulses and jobs follow ZAC
-/// (Lin, Tan and Cong, HPCA 2025).
+/// The program of a circuit on a card, for a circuit of at most 786,432 ops, at most 262,144 of them pairs. Zones, pulses
+/// and jobs follow ZAC (Lin, Tan and Cong, HPCA 2025).
 ///
 /// The qubits that are used first rest nearest to site 0 (`zac_place`). The pairs of the circuit go into pulses of at
 /// most as many pairs as the card has sites, and its one-qubit gates into the slots between them, each as early as it can
 /// (`zac_stage`). Before a pulse come the gates of its slot, as one instruction. As many gates of the pulse as can be are
 /// kept at the sites of gates of the pulse before it with which they share a qubit (`zac_reuse`); the other atoms at the
 /// sites leave for storage, and the other gates go to free sites, each with the least sum of distances. The moves of
-/// the returns, and those of the arrivals, are put into groups (`zac_group`), and each group is a job of AOD 0
-/// (`zac_aod`), in the order of the groups. Behind the last pulse come the gates of the last slot, and then all reads as
-/// one instruction; no atom is moved there. Where there are no such gates or reads, the instruction is left out. The
-/// first instruction begins at moment 0, and each other one where the one before it ends.
+/// the returns, and those of the arrivals, are put into groups (`zac_group`), and each group is a job (`zac_aod`), in the
+/// order of the groups. Behind the last pulse come the gates of the last slot, and then all reads as one instruction; no
+/// atom is moved there. Where there are no such gates or reads, the instruction is left out.
+///
+/// This is the order of the list, behind an instruction of the homes. A job is made by the AOD whose last job ends first,
+/// of several the one of least number. Each instruction begins when all that it uses is free: the laser, its AOD, its
+/// qubits and its traps (`zac_sched`).
 ///
 /// In the order of the list, and in every order that these times allow, each step is legal, each pulse brings
 /// within range exactly the pairs that it lists, and each op but the fences is performed once, after all that it
-/// must follow. All numbers and angles are in the ranges of the text form. The time that this call takes is in
-/// proportion to the ops, but for the moves of each phase, which are sorted and put into groups.
+/// must follow; and all these orders perform the same ops in the same order, and end in the same state. All numbers and
+/// angles are in the ranges of the text form. The time that this call takes is in proportion to the ops, but for what
+/// each pulse costs: its moves are sorted and put into groups, its least placings grow faster than its gates, and each
+/// storage trap and each site is looked at once.
 ///
 /// `TooManyQubits` comes exactly where the circuit has more qubits than the card has storage traps. `Memory` is
 /// the only other fault.
 pub fn compile(alloc: Global, card: &Card, circuit: &Circuit) -> Result<Program, PlanFault>
-    requires { length circuit.now.ops ≤ 786432 }
+    requires few { length circuit.now.ops ≤ 786432 }
+    requires few_pairs { pairs_in circuit.now.ops ≤ 262144 }
     ensures does { IfOk result (λ program. IsPlanned card.now circuit.now program) }
-    ensures chain { IfOk result (λ program. IsChain card.now.figures 0 program) }
     ensures performs { IfOk result (λ program. Performs card.now circuit.now program) }
+    ensures agree { IfOk result (λ program. OrdersAgree card.now program) }
     ensures ranges { IfOk result (λ program. ProgramFits program) }
     ensures fits { OnOk result (circuit.now.qubits ≤ storage_count card.now) }
     ensures too_many { storage_count card.now < circuit.now.qubits
@@ -140,6 +158,7 @@ pub fn compile(alloc: Global, card: &Card, circuit: &Circuit) -> Result<Program,
     let stages = stage(alloc, circuit, card.sites())?;
     numbers_follow();
     pulses_are_filled();
-    let instrs = planned(alloc, card, circuit, &stages)?;
-    Ok(program_of(card, circuit, instrs))
+    let program = scheduled(alloc, card, circuit, &stages)?;
+    tidy_programs_perform(card);
+    Ok(program)
 }

@@ -7,8 +7,8 @@ ghost use Rattle.zac_plan.specs.Growth.{GrowsByReturns};
 ghost use Rattle.zac_plan.specs.Plan.{is_on, leaving, stays};
 ghost use Rattle.zac_plan.specs.Seats.{CanReturn, rests_in};
 
+use crate::agenda::Agenda;
 use crate::shifts::{put_all, shifts_to};
-use crate::timeline::Timeline;
 use std::alloc::Global;
 use std::collections::BTreeSet;
 use zac_arch::Card;
@@ -104,12 +104,12 @@ fn leaving(
     Ok(qubits)
 }
 
-impl Timeline {
+impl<'a> Agenda<'a> {
     /// Adds the jobs that bring home what leaves the sites, and makes their moves in the world.
     pub fn add_returns(
         &mut self,
         alloc: Global,
-        card: &Card,
+        card: &'a Card,
         world: &mut World<'_>,
         ops: &[Op],
         before: &[PairOf],
@@ -118,9 +118,7 @@ impl Timeline {
         requires its_card { world.old.architecture ≡ card.now }
         requires kept_in { All (λ k. (k.0 < length ops.now) × (k.1 < length ops.now)) kept.now }
         requires can_return { CanReturn card.now ops.now (rests_in world.old) before.now kept.now }
-        requires room { self.old.now + 8000000000 * length before.now < 2 ^ 64 }
         ensures ok { OnOk result (GrowsByReturns card.now ops.now before.now kept.now self.old self.new world.old world.new) }
-        ensures most { OnOk result (self.new.now ≤ self.old.now + 8000000000 * length before.now) }
     {
         let leaving = leaving(alloc, ops, before, kept)?;
         let placed = returns(alloc, card, world, &leaving)?;

@@ -1,13 +1,13 @@
 //! What is done around a pulse.
 
-ghost use Rattle.std.specs.Prelude.{◌≡◌, ◌+◌, ◌*◌, ◌^◌, ◌<◌, ◌≤◌, OnOk, length};
+ghost use Rattle.std.specs.Prelude.{◌≡◌, ◌<◌, ◌≤◌, OnOk, length};
 ghost use Rattle.zac_arch.specs.Architecture.{storage_count};
 ghost use Rattle.zac_plan.specs.Growth.{GrowsByRound, IsSentHome, IsStagingOf, pulse_before, numbers_at};
 ghost use Rattle.zac_plan.specs.Plan.{pairs_at};
 ghost use Rattle.zac_plan.specs.Seats.{AreSeated, rests_in};
 
+use crate::agenda::Agenda;
 use crate::slots::{gates_at, pairs_at};
-use crate::timeline::Timeline;
 use std::alloc::Global;
 use zac_arch::Card;
 use zac_gates::{Circuit, Memory};
@@ -15,12 +15,12 @@ use zac_reuse::keep;
 use zac_stage::Stages;
 use zac_world::World;
 
-impl Timeline {
+impl<'a> Agenda<'a> {
     /// Adds the jobs that bring home what leaves the sites of the pulse before this one.
     fn send_home(
         &mut self,
         alloc: Global,
-        card: &Card,
+        card: &'a Card,
         world: &mut World<'_>,
         circuit: &Circuit,
         stages: &Stages<'_>,
@@ -32,10 +32,8 @@ impl Timeline {
         requires t_in { t < length stages.now.pairs }
         requires seats { AreSeated card.now circuit.now.qubits (rests_in world.old)
             (pairs_at circuit.now.ops (pulse_before stages.now.pairs t)) }
-        requires room { self.old.now + 8000000000 * length (pulse_before stages.now.pairs t) < 2 ^ 64 }
         ensures ok { OnOk result (IsSentHome card.now circuit.now.ops (pulse_before stages.now.pairs t)
             (numbers_at stages.now.pairs t) self.old self.new world.old world.new) }
-        ensures most { OnOk result (self.new.now ≤ self.old.now + 8000000000 * length (pulse_before stages.now.pairs t)) }
     {
         if t == 0 {
             return Ok(());
@@ -53,7 +51,7 @@ impl Timeline {
     pub fn add_round(
         &mut self,
         alloc: Global,
-        card: &Card,
+        card: &'a Card,
         world: &mut World<'_>,
         circuit: &Circuit,
         stages: &Stages<'_>,
@@ -65,24 +63,18 @@ impl Timeline {
         requires t_in { t < length stages.now.pairs }
         requires seats { AreSeated card.now circuit.now.qubits (rests_in world.old)
             (pairs_at circuit.now.ops (pulse_before stages.now.pairs t)) }
-        requires room { self.old.now + 8000000000 * length (pulse_before stages.now.pairs t)
-            + 1000000000 * length (numbers_at stages.now.gates t)
-            + 8000000000 * length (numbers_at stages.now.pairs t) + 1000000000 < 2 ^ 64 }
         ensures ok { OnOk result (GrowsByRound card.now circuit.now.ops (pulse_before stages.now.pairs t)
             (numbers_at stages.now.gates t) (numbers_at stages.now.pairs t) self.old self.new world.old world.new) }
-        ensures most { OnOk result (self.new.now ≤ self.old.now + 8000000000 * length (pulse_before stages.now.pairs t)
-            + 1000000000 * length (numbers_at stages.now.gates t)
-            + 8000000000 * length (numbers_at stages.now.pairs t) + 1000000000) }
     {
         // Its contract says that the card keeps all rules.
         let _figures = card.figures();
         let ops = circuit.ops();
         let ones = gates_at(alloc, ops, stages.gates(t))?;
-        self.add_gates(card, ones)?;
+        self.add_gates(ones)?;
         self.send_home(alloc, card, world, circuit, stages, t)?;
         let pairs = pairs_at(alloc, ops, stages.pairs(t))?;
         self.add_arrivals(alloc, card, world, &pairs)?;
-        self.add_pulse(card, pairs)?;
+        self.add_pulse(pairs)?;
         Ok(())
     }
 }

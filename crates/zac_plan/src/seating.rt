@@ -9,8 +9,8 @@ ghost use Rattle.zac_plan.specs.Growth.{GrowsByArrivals};
 ghost use Rattle.zac_plan.specs.Plan.{completing, ends_of, free_sites, held_gates, is_at_site, is_free, is_held, new_gates, other_trap, shift_to, to_sites};
 ghost use Rattle.zac_plan.specs.Seats.{CanArrive, HasQubitsBelow, rests_in};
 
+use crate::agenda::Agenda;
 use crate::shifts::put_all;
-use crate::timeline::Timeline;
 use std::alloc::Global;
 use zac_arch::{Card, SiteId, TrapId};
 use zac_gates::{List, Memory};
@@ -197,21 +197,19 @@ fn to_sites(
     Ok(())
 }
 
-impl Timeline {
+impl<'a> Agenda<'a> {
     /// Adds the jobs that bring the atoms of a pulse together, and makes their moves in the world: gates of which an atom
     /// has stayed at a site are completed there, and the others go to free sites.
     pub fn add_arrivals(
         &mut self,
         alloc: Global,
-        card: &Card,
+        card: &'a Card,
         world: &mut World<'_>,
         pairs: &[PairOf],
     ) -> Result<(), Memory>
         requires its_card { world.old.architecture ≡ card.now }
         requires can_arrive { CanArrive card.now (rests_in world.old) pairs.now }
-        requires room { self.old.now + 8000000000 * length pairs.now < 2 ^ 64 }
         ensures ok { OnOk result (GrowsByArrivals card.now pairs.now self.old self.new world.old world.new) }
-        ensures most { OnOk result (self.new.now ≤ self.old.now + 8000000000 * length pairs.now) }
     {
         let new = new_gates(alloc, card, world, pairs)?;
         let free = free_sites(alloc, card, world)?;

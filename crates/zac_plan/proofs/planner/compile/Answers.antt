@@ -16,5 +16,11 @@ staged c =
     staging_of c.args.card.now c.args.circuit.now s is.0 is.1 (is.2 ∙ c.sites.ensures) (c.numbers_follow.ensures s.circuit.ops s.sites s.numbers is.0.numbered)
     (λ t numbers at. c.pulses_are_filled.ensures s t numbers some is.0 at)
 
-pub planned-requires-clause-stages : goal.planned-requires-clause-stages
-planned-requires-clause-stages c = staged (goal.at.planned-requires-clause-stages c).After-pulses_are_filled
+pub scheduled-requires-clause-stages : goal.scheduled-requires-clause-stages
+scheduled-requires-clause-stages c = staged (goal.at.scheduled-requires-clause-stages c).After-pulses_are_filled
+
+pub returns-clause-performs : goal.returns-clause-performs
+returns-clause-performs c = c.tidy_programs_perform.ensures.performs c.args.circuit.now c.in_ok-program.program c.in_ok-program.ensures.tidy
+
+pub returns-clause-agree : goal.returns-clause-agree
+returns-clause-agree c = c.tidy_programs_perform.ensures.agree c.args.circuit.now c.in_ok-program.program c.in_ok-program.ensures.tidy

@@ -5,8 +5,8 @@ use Rattle.zac_world.specs.Places.{Places}
 use Rattle.zac_plan.specs.Plan.{after_shifts, places, shifts_to}
 use Rattle.zac_plan.specs.Seats.{rests_in}
 use Rattle.zac_plan.proofs.Returns.{can_go_home, ends_home, few_leave, grows_home, phase_home}
-use Rattle.zac_plan.proofs.timeline.Timeline.add_returns.Goals as goal
-use Rattle.zac_plan.proofs.timeline.Timeline.add_returns.Goals.{In_ok-shifts}
+use Rattle.zac_plan.proofs.agenda.Agenda.add_returns.Goals as goal
+use Rattle.zac_plan.proofs.agenda.Agenda.add_returns.Goals.{In_ok-shifts}
 
 pub returns-requires-clause-few : goal.returns-requires-clause-few
 returns-requires-clause-few c =
@@ -33,18 +33,21 @@ put_all-requires-clause-targets c =
     c.deref.result.now (c.deref.ensures.value ∙ c.in_ok-leaving.ensures.leaving) c.in_ok-placed.placed.targets c.in_ok-placed.ensures.placing
     c.deref-3.result.now (c.deref-3.ensures.value ∙ listed (goal.at.put_all-requires-clause-targets c).In_ok-shifts)
 
-pub add_jobs-requires-clause-phase : goal.add_jobs-requires-clause-phase
-add_jobs-requires-clause-phase c =
-    phase_home c.args.card.now c.args.ops.now c.args.world.now c.args.before.now c.args.kept.now c.requires.its_card c.requires.can_return
-    c.deref.result.now (c.deref.ensures.value ∙ c.in_ok-leaving.ensures.leaving) c.in_ok-placed.placed.targets c.in_ok-placed.ensures.placing
-    c.of.result (c.of.ensures ∙ listed (goal.at.add_jobs-requires-clause-phase c).In_ok-shifts)
+pub add_jobs-requires : goal.add_jobs-requires
+add_jobs-requires c = record {
+  phase = phase_home c.args.card.now c.args.ops.now c.args.world.now c.args.before.now c.args.kept.now c.requires.its_card c.requires.can_return
+      c.deref.result.now (c.deref.ensures.value ∙ c.in_ok-leaving.ensures.leaving) c.in_ok-placed.placed.targets c.in_ok-placed.ensures.placing
+      c.of.result (c.of.ensures ∙ listed (goal.at.add_jobs-requires c).In_ok-shifts);
+}
 
-pub returns-clause-ok : goal.returns-clause-ok
-returns-clause-ok c =
+pub returns : goal.returns
+returns c =
     let behind : List Shift → Places = λ shifts. places c.args.world.now.architecture (after_shifts (rests_in c.args.world.now) shifts) in
-    on_ok_weaker c.add_jobs.result
-    (grows_home c.args.card.now c.args.ops.now c.args.world.now c.args.before.now c.args.kept.now c.requires.its_card c.requires.can_return
-    c.deref.result.now (c.deref.ensures.value ∙ c.in_ok-leaving.ensures.leaving) c.in_ok-placed.placed.targets c.in_ok-placed.ensures.placing
-    c.of.result (c.of.ensures ∙ listed (goal.at.returns-clause-ok c).In_ok-shifts) c.args.self.now c.add_jobs.new.self c.put_all.new.world c.in_ok-placed.ensures.least
-    (c.put_all.ensures ∙ ap behind (c.deref-3.ensures.value ∙ sym c.of.ensures)))
-    c.add_jobs.ensures.ok
+    record {
+      ok = on_ok_weaker c.add_jobs.result
+          (grows_home c.args.card.now c.args.ops.now c.args.world.now c.args.before.now c.args.kept.now c.requires.its_card c.requires.can_return
+          c.deref.result.now (c.deref.ensures.value ∙ c.in_ok-leaving.ensures.leaving) c.in_ok-placed.placed.targets c.in_ok-placed.ensures.placing
+          c.of.result (c.of.ensures ∙ listed (goal.at.returns c).In_ok-shifts) c.args.self.now c.add_jobs.new.self c.put_all.new.world c.in_ok-placed.ensures.least
+          (c.put_all.ensures ∙ ap behind (c.deref-3.ensures.value ∙ sym c.of.ensures)))
+          c.add_jobs.ensures.ok;
+    }

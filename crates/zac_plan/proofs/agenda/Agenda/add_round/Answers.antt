@@ -1,12 +1,12 @@
-use Rattle.std.proofs.Common.{◌≡◌, ℕ, [], ◌∷◌, ◌<◌, ◌∙◌, List, Some, length, arith, slice_get, sym, ap, subst}
+use Rattle.std.proofs.Common.{◌≡◌, [], ◌∷◌, ◌<◌, ◌∙◌, List, length, arith, sym, ap, subst}
 use Rattle.std.specs.List.{All}
 use Rattle.std.proofs.lemmas.Option.{get_or_from_slice_get}
-use Rattle.zair_form.specs.declared.program.Act.TheVariants.{Rydberg}
+use Rattle.zac_sched.specs.declared.todo.Todo.TheVariants.{Rydberg}
 use Rattle.zair_form.specs.declared.step.PairOf.{PairOf}
 use Rattle.zac_arch.specs.declared.place.TrapId.{TrapId}
 use Rattle.zac_gates.specs.declared.circuit.Op.{Op}
 use Rattle.zac_plan.specs.Growth.{GrowsByArrivals, numbers_at, pulse_before}
-use Rattle.zac_plan.specs.Plan.{after_shifts, gates_act, gates_at, leaving, pairs_at, shifts_to}
+use Rattle.zac_plan.specs.Plan.{after_shifts, gates_todo, gates_at, leaving, pairs_at, shifts_to}
 use Rattle.zac_plan.proofs.Arriving.{can_arrive}
 use Rattle.zac_plan.proofs.Growing.{goes_on_same}
 use Rattle.zac_plan.proofs.Worlds.{rests_of_places}
@@ -15,7 +15,7 @@ use Rattle.zac_plan.proofs.Leaving.{cleared, held_are_kept}
 use Rattle.zac_plan.proofs.Planned.{fits_before, fits_now, pulse_below, slot_below}
 use Rattle.zac_plan.proofs.PulsePairs.{pairs_before, pairs_now}
 use Rattle.zac_plan.proofs.RoundGrowth.{grows_by_round}
-use Rattle.zac_plan.proofs.timeline.Timeline.add_round.Goals as goal
+use Rattle.zac_plan.proofs.agenda.Agenda.add_round.Goals as goal
 
 pub gates_at-requires : goal.gates_at-requires
 gates_at-requires c =
@@ -26,38 +26,6 @@ pub pairs_at-requires : goal.pairs_at-requires
 pairs_at-requires c =
     subst (λ (l : List Op). All (λ k. k < length l) c.pairs.result.now) (sym c.ops-ops.ensures.value)
     (pulse_below c.args.card.now c.args.circuit.now c.args.stages.now c.figures-figures.ensures.rules c.requires.fits c.ops-ops.ensures.valid c.requires.stages c.args.t c.pairs.result.now c.pairs.ensures)
-
--- how many numbers the slot has, and the pulse
-count : (lists : List (List ℕ)) (t : ℕ) (numbers : List ℕ) → slice_get lists t ≡ Some numbers → length (numbers_at lists t) ≡ length numbers
-count lists t numbers at = ap length (get_or_from_slice_get lists t numbers [] at)
-
-pub add_gates-requires-clause-room : goal.add_gates-requires-clause-room
-add_gates-requires-clause-room c =
-    let slot = count c.args.stages.now.gates c.args.t c.gates.result.now c.gates.ensures in
-    omega (arith, slot, c.in_ok-ones.ensures.most, c.requires.room)
-
-pub send_home-requires-clause-room : goal.send_home-requires-clause-room
-send_home-requires-clause-room c =
-    let slot = count c.args.stages.now.gates c.args.t c.gates.result.now c.gates.ensures in
-    omega (arith, slot, c.in_ok-ones.ensures.most, c.in_ok-add_gates.ensures.most, c.requires.room)
-
-pub add_arrivals-requires-clause-room : goal.add_arrivals-requires-clause-room
-add_arrivals-requires-clause-room c =
-    let slot = count c.args.stages.now.gates c.args.t c.gates.result.now c.gates.ensures in
-    let pulse = count c.args.stages.now.pairs c.args.t c.pairs.result.now c.pairs.ensures in
-    omega (arith, slot, pulse, c.deref.ensures.len, c.in_ok-pairs.ensures.most, c.in_ok-ones.ensures.most, c.in_ok-add_gates.ensures.most, c.in_ok-send_home.ensures.most, c.requires.room)
-
-pub add_pulse-requires-clause-room : goal.add_pulse-requires-clause-room
-add_pulse-requires-clause-room c =
-    let slot = count c.args.stages.now.gates c.args.t c.gates.result.now c.gates.ensures in
-    let pulse = count c.args.stages.now.pairs c.args.t c.pairs.result.now c.pairs.ensures in
-    omega (arith, slot, pulse, c.deref.ensures.len, c.in_ok-pairs.ensures.most, c.in_ok-ones.ensures.most, c.in_ok-add_gates.ensures.most, c.in_ok-send_home.ensures.most, c.in_ok-add_arrivals.ensures.most, c.requires.room)
-
-pub returns-clause-most : goal.returns-clause-most
-returns-clause-most c =
-    let slot = count c.args.stages.now.gates c.args.t c.gates.result.now c.gates.ensures in
-    let pulse = count c.args.stages.now.pairs c.args.t c.pairs.result.now c.pairs.ensures in
-    omega (arith, slot, pulse, c.deref.ensures.len, c.in_ok-pairs.ensures.most, c.in_ok-ones.ensures.most, c.in_ok-add_gates.ensures.most, c.in_ok-send_home.ensures.most, c.in_ok-add_arrivals.ensures.most, c.in_ok-add_pulse.ensures.most)
 
 pub add_arrivals-requires-clause-can_arrive : goal.add_arrivals-requires-clause-can_arrive
 add_arrivals-requires-clause-can_arrive c =
@@ -81,10 +49,9 @@ add_arrivals-requires-clause-can_arrive c =
     subst (λ (l : List PairOf). CanArrive a (rests_in c.send_home.new.world) l) (sym (c.deref.ensures.value ∙ pairs_are))
     (subst (λ (l : List TrapId). CanArrive a l (pairs_at ops pulse)) (sym there) can)
 
-pub returns-clause-ok : goal.returns-clause-ok
-returns-clause-ok c =
+pub returns : goal.returns
+returns c =
     let a = c.args.card.now in
-    let f = a.figures in
     let ops = c.args.circuit.now.ops in
     let value = c.ops-ops.ensures.value in
     let slot = numbers_at c.args.stages.now.gates c.args.t in
@@ -94,16 +61,18 @@ returns-clause-ok c =
     let pairs_are : c.in_ok-pairs.pairs.items ≡ pairs_at ops pulse =
     c.in_ok-pairs.ensures.pairs ∙ ap (λ (l : List Op). pairs_at l c.pairs.result.now) value ∙ ap (pairs_at ops) (sym pulse_is) in
     let gates_are = c.in_ok-ones.ensures.gates ∙ ap (λ (l : List Op). gates_at l c.gates.result.now) value ∙ ap (gates_at ops) (sym slot_is) in
-    let gates = goes_on_same f c.args.self.now c.add_gates.new.self (gates_act c.in_ok-ones.ones.items) (gates_act (gates_at ops slot)) (ap gates_act gates_are) c.in_ok-add_gates.ensures.ok in
+    let gates = goes_on_same c.args.self.now c.add_gates.new.self (gates_todo c.in_ok-ones.ones.items) (gates_todo (gates_at ops slot)) (ap gates_todo gates_are) c.in_ok-add_gates.ensures.ok in
     let came =
     subst (λ (l : List PairOf). GrowsByArrivals a l c.send_home.new.self c.add_arrivals.new.self c.send_home.new.world c.add_arrivals.new.world) (c.deref.ensures.value ∙ pairs_are) c.in_ok-add_arrivals.ensures.ok in
-    let pulsed = goes_on_same f c.add_arrivals.new.self c.add_pulse.new.self (Rydberg c.in_ok-pairs.pairs.items ∷ []) (Rydberg (pairs_at ops pulse) ∷ []) (ap (λ (l : List PairOf). Rydberg l ∷ []) pairs_are) c.in_ok-add_pulse.ensures.ok in
+    let pulsed = goes_on_same c.add_arrivals.new.self c.add_pulse.new.self (Rydberg c.in_ok-pairs.pairs.items ∷ []) (Rydberg (pairs_at ops pulse) ∷ []) (ap (λ (l : List PairOf). Rydberg l ∷ []) pairs_are) c.in_ok-add_pulse.ensures.ok in
     let before = pulse_before c.args.stages.now.pairs c.args.t in
     let sent = c.in_ok-send_home.ensures.ok in
-    grows_by_round a ops before slot pulse c.args.self.now c.add_gates.new.self c.send_home.new.self c.add_arrivals.new.self c.add_pulse.new.self
-    c.args.world.now c.send_home.new.world c.add_arrivals.new.world gates sent came pulsed
-    (held_are_kept a c.figures-figures.ensures.rules c.args.circuit.now.qubits c.requires.fits ops (rests_in c.args.world.now) before pulse sent.kept sent.keeping
-    (fits_before a c.args.circuit.now c.args.stages.now c.figures-figures.ensures.rules c.requires.fits c.ops-ops.ensures.valid c.requires.stages c.args.t (omega arith))
-    (fits_now a c.args.circuit.now c.args.stages.now c.figures-figures.ensures.rules c.requires.fits c.ops-ops.ensures.valid c.requires.stages c.args.t c.requires.t_in)
-    c.requires.seats (pairs_before a c.args.circuit.now c.args.stages.now c.requires.stages c.args.t) (pairs_now a c.args.circuit.now c.args.stages.now c.requires.stages c.args.t)
-    sent.grows.targets sent.grows.chosen.placing)
+    record {
+      ok = grows_by_round a ops before slot pulse c.args.self.now c.add_gates.new.self c.send_home.new.self c.add_arrivals.new.self c.add_pulse.new.self
+          c.args.world.now c.send_home.new.world c.add_arrivals.new.world gates sent came pulsed
+          (held_are_kept a c.figures-figures.ensures.rules c.args.circuit.now.qubits c.requires.fits ops (rests_in c.args.world.now) before pulse sent.kept sent.keeping
+          (fits_before a c.args.circuit.now c.args.stages.now c.figures-figures.ensures.rules c.requires.fits c.ops-ops.ensures.valid c.requires.stages c.args.t (omega arith))
+          (fits_now a c.args.circuit.now c.args.stages.now c.figures-figures.ensures.rules c.requires.fits c.ops-ops.ensures.valid c.requires.stages c.args.t c.requires.t_in)
+          c.requires.seats (pairs_before a c.args.circuit.now c.args.stages.now c.requires.stages c.args.t) (pairs_now a c.args.circuit.now c.args.stages.now c.requires.stages c.args.t)
+          sent.grows.targets sent.grows.chosen.placing);
+    }

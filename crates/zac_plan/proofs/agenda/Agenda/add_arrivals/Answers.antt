@@ -1,4 +1,4 @@
-use Rattle.std.proofs.Common.{◌≡◌, ◌+◌, ◌<◌, ◌≤◌, ◌*◌, ℕ, List, length, map, sym, ap, ◌∙◌, subst, arith}
+use Rattle.std.proofs.Common.{◌≡◌, ◌<◌, ℕ, List, length, map, sym, ap, ◌∙◌, subst}
 use Rattle.std.specs.List.{All}
 use Rattle.std.proofs.lemmas.Result.{on_ok_weaker}
 use Rattle.zac_arch.specs.Architecture.{Architecture, site_count, trap_count}
@@ -9,7 +9,7 @@ use Rattle.zac_plan.specs.Plan.{after_shifts, arrivals, ends_of, places}
 use Rattle.zac_plan.specs.Seats.{rests_in}
 use Rattle.zac_plan.proofs.Arrivals.{free_in_card, free_rise, least_is, listed, new_below, new_stored, taken_in_card, targets_in_card}
 use Rattle.zac_plan.proofs.Worlds.{places_of_world}
-use Rattle.zac_plan.proofs.timeline.Timeline.add_arrivals.Goals as goal
+use Rattle.zac_plan.proofs.agenda.Agenda.add_arrivals.Goals as goal
 
 pub gate_sites-requires-clause-rising : goal.gate_sites-requires-clause-rising
 gate_sites-requires-clause-rising c =
@@ -56,25 +56,17 @@ put_all-requires-clause-targets c =
     subst (λ (a : Architecture). All (λ s. s.to.0 < trap_count a) c.deref-5.result.now) (sym c.requires.its_card)
     (targets_in_card c.args.card.now c.deref-5.result.now phase)
 
-pub add_jobs-requires-clause-phase : goal.add_jobs-requires-clause-phase
-add_jobs-requires-clause-phase c =
-    (listed c.args.card.now c.args.world.now c.requires.its_card c.args.pairs.now c.requires.can_arrive c.deref.result.now (ap (map (λ (s : SiteId). s.0)) c.deref.ensures.value ∙ c.in_ok-free.ensures.free)
-    c.in_ok-new.new.items c.in_ok-new.ensures.new c.deref-3.result.now (c.deref-3.ensures.value ∙ c.in_ok-ends_of.ensures.ends ∙ ap ends_of c.deref-2.ensures.value)
-    c.in_ok-placed.placed.targets c.in_ok-placed.ensures.placing c.in_ok-shifts.shifts.items c.in_ok-shifts.ensures.shifts
-    c.deref-4.result.now c.deref-4.ensures.value c.as_slice.result.now c.as_slice.ensures
-    c.of.result (c.of.ensures ∙ c.in_ok-to_sites.ensures.added)).phase
+pub add_jobs-requires : goal.add_jobs-requires
+add_jobs-requires c = record {
+  phase = (listed c.args.card.now c.args.world.now c.requires.its_card c.args.pairs.now c.requires.can_arrive c.deref.result.now (ap (map (λ (s : SiteId). s.0)) c.deref.ensures.value ∙ c.in_ok-free.ensures.free)
+      c.in_ok-new.new.items c.in_ok-new.ensures.new c.deref-3.result.now (c.deref-3.ensures.value ∙ c.in_ok-ends_of.ensures.ends ∙ ap ends_of c.deref-2.ensures.value)
+      c.in_ok-placed.placed.targets c.in_ok-placed.ensures.placing c.in_ok-shifts.shifts.items c.in_ok-shifts.ensures.shifts
+      c.deref-4.result.now c.deref-4.ensures.value c.as_slice.result.now c.as_slice.ensures
+      c.of.result (c.of.ensures ∙ c.in_ok-to_sites.ensures.added)).phase;
+}
 
-pub add_jobs-requires-clause-room : goal.add_jobs-requires-clause-room
-add_jobs-requires-clause-room c =
-    let few = (listed c.args.card.now c.args.world.now c.requires.its_card c.args.pairs.now c.requires.can_arrive c.deref.result.now (ap (map (λ (s : SiteId). s.0)) c.deref.ensures.value ∙ c.in_ok-free.ensures.free)
-    c.in_ok-new.new.items c.in_ok-new.ensures.new c.deref-3.result.now (c.deref-3.ensures.value ∙ c.in_ok-ends_of.ensures.ends ∙ ap ends_of c.deref-2.ensures.value)
-    c.in_ok-placed.placed.targets c.in_ok-placed.ensures.placing c.in_ok-shifts.shifts.items c.in_ok-shifts.ensures.shifts
-    c.deref-4.result.now c.deref-4.ensures.value c.as_slice.result.now c.as_slice.ensures
-    c.of.result (c.of.ensures ∙ c.in_ok-to_sites.ensures.added)).few in
-    omega (arith, few, c.requires.room)
-
-pub returns-clause-ok : goal.returns-clause-ok
-returns-clause-ok c =
+pub returns : goal.returns
+returns c =
     let a = c.args.card.now in
     let world = c.args.world.now in
     let rests = rests_in world in
@@ -92,21 +84,13 @@ returns-clause-ok c =
     c.put_all.ensures
     ∙ ap (λ (card : Architecture). places card (after_shifts rests c.deref-5.result.now)) c.requires.its_card
     ∙ ap (λ (l : List Shift). places a (after_shifts rests l)) (c.deref-5.ensures.value ∙ sym c.of.ensures ∙ moves.are) in
-    on_ok_weaker c.add_jobs.result
-    (λ (grows : GrowsByJobs a c.args.self.now c.add_jobs.new.self c.of.result). record {
-      sites = sites;
-      chosen = least_is a rests c.deref.result.now free world (places_of_world a world c.requires.its_card) pairs c.deref-2.result.now new c.deref-3.result.now ends sites c.in_ok-placed.ensures.least;
-      grows = subst (GrowsByJobs a c.args.self.now c.add_jobs.new.self) moves.are grows;
-      moved = made;
-    })
-    c.add_jobs.ensures.ok
-
-pub returns-clause-most : goal.returns-clause-most
-returns-clause-most c =
-    let few = (listed c.args.card.now c.args.world.now c.requires.its_card c.args.pairs.now c.requires.can_arrive c.deref.result.now (ap (map (λ (s : SiteId). s.0)) c.deref.ensures.value ∙ c.in_ok-free.ensures.free)
-    c.in_ok-new.new.items c.in_ok-new.ensures.new c.deref-3.result.now (c.deref-3.ensures.value ∙ c.in_ok-ends_of.ensures.ends ∙ ap ends_of c.deref-2.ensures.value)
-    c.in_ok-placed.placed.targets c.in_ok-placed.ensures.placing c.in_ok-shifts.shifts.items c.in_ok-shifts.ensures.shifts
-    c.deref-4.result.now c.deref-4.ensures.value c.as_slice.result.now c.as_slice.ensures
-    c.of.result (c.of.ensures ∙ c.in_ok-to_sites.ensures.added)).few in
-    on_ok_weaker c.add_jobs.result (λ (most : c.add_jobs.new.self.now ≤ c.args.self.now.now + 4000000000 * length c.of.result). omega (arith, few, most))
-    c.add_jobs.ensures.most
+    record {
+      ok = on_ok_weaker c.add_jobs.result
+          (λ (grows : GrowsByJobs a c.args.self.now c.add_jobs.new.self c.of.result). record {
+            sites = sites;
+            chosen = least_is a rests c.deref.result.now free world (places_of_world a world c.requires.its_card) pairs c.deref-2.result.now new c.deref-3.result.now ends sites c.in_ok-placed.ensures.least;
+            grows = subst (GrowsByJobs a c.args.self.now c.add_jobs.new.self) moves.are grows;
+            moved = made;
+          })
+          c.add_jobs.ensures.ok;
+    }

@@ -1,4 +1,4 @@
-use Rattle.std.proofs.Common.{◌≡◌, ◌∙◌, ◌<◌, ◌≤◌, ◌+◌, ◌-◌, ◌*◌, ℕ, List, ap, arith, length, subst, sym}
+use Rattle.std.proofs.Common.{◌≡◌, ◌∙◌, ◌<◌, ◌-◌, List, ap, arith, length, subst, sym}
 use Rattle.std.specs.List.{All}
 use Rattle.std.proofs.lemmas.Result.{on_ok_weaker}
 use Rattle.zac_gates.specs.declared.circuit.Op.{Op}
@@ -9,13 +9,14 @@ use Rattle.zac_plan.specs.Seats.{rests_in}
 use Rattle.zac_plan.proofs.Leaving.{can_return}
 use Rattle.zac_plan.proofs.Planned.{fits_before, fits_now, pulse_below}
 use Rattle.zac_plan.proofs.SentHome.{can_return_by_names, found_before, grows_by_names, kept_in, none_leave_at_first, of_both}
-use Rattle.zac_plan.proofs.timeline.Timeline.send_home.Goals as goal
-use Rattle.zac_plan.proofs.timeline.Timeline.send_home.Goals.{After-as_slice}
+use Rattle.zac_plan.proofs.agenda.Agenda.send_home.Goals as goal
+use Rattle.zac_plan.proofs.agenda.Agenda.send_home.Goals.{After-as_slice}
 
-pub returns-then-t-eq0-clause-ok : goal.returns-then-t-eq0-clause-ok
-returns-then-t-eq0-clause-ok c =
-    none_leave_at_first c.args.card.now c.args.circuit.now.ops c.args.stages.now.pairs c.args.t (numbers_at c.args.stages.now.pairs c.args.t)
-    c.args.self.now c.args.world.now (omega arith) c.requires.its_card
+pub returns-then-t-eq0 : goal.returns-then-t-eq0
+returns-then-t-eq0 c = record {
+  ok = none_leave_at_first c.args.card.now c.args.circuit.now.ops c.args.stages.now.pairs c.args.t (numbers_at c.args.stages.now.pairs c.args.t)
+      c.args.self.now c.args.world.now (omega arith) c.requires.its_card;
+}
 
 pub pairs_at-requires : goal.pairs_at-requires
 pairs_at-requires c =
@@ -40,10 +41,6 @@ its_pairs c =
     ∙ c.in_ok-before.ensures.pairs
     ∙ ap (λ (l : List Op). pairs_at l c.pairs.result.now) c.ops-ops.ensures.value
     ∙ ap (pairs_at c.args.circuit.now.ops) (its_numbers c)
-
--- of which there are as many as numbers at most
-few_pairs : (c : After-as_slice) → length c.deref.result.now ≤ length (pulse_before c.args.stages.now.pairs c.args.t)
-few_pairs c = omega (arith, c.in_ok-before.ensures.most, c.deref.ensures.len, ap (λ (l : List ℕ). length l) (its_numbers c))
 
 keeping : (c : After-as_slice) →
     IsKeeping c.args.circuit.now.ops (pulse_before c.args.stages.now.pairs c.args.t) (numbers_at c.args.stages.now.pairs c.args.t) c.in_ok-kept.kept.pairs
@@ -71,27 +68,20 @@ add_returns-requires-clause-can_return d =
     (fits_before a circuit stages rules c.requires.fits c.ops-ops.ensures.valid c.requires.stages c.args.t (omega arith))
     (fits_now a circuit stages rules c.requires.fits c.ops-ops.ensures.valid c.requires.stages c.args.t c.requires.t_in) c.requires.seats)
 
-pub add_returns-requires-clause-room : goal.add_returns-requires-clause-room
-add_returns-requires-clause-room c = omega (arith, c.requires.room, few_pairs (goal.at.add_returns-requires-clause-room c).After-as_slice)
-
-pub returns-clause-ok : goal.returns-clause-ok
-returns-clause-ok c =
-    let at = (goal.at.returns-clause-ok c).After-as_slice in
+pub returns : goal.returns
+returns c =
+    let at = (goal.at.returns c).After-as_slice in
     let ops = c.args.circuit.now.ops in
-    on_ok_weaker c.add_returns.result
-    (λ grows. record {
-      kept = c.in_ok-kept.kept.pairs;
-      keeping = keeping at;
-      greatest = greatest at;
-      grows =
-          grows_by_names c.args.card.now ops c.ops-ops.result.now (pairs_at ops (pulse_before c.args.stages.now.pairs c.args.t)) c.deref.result.now
-          c.in_ok-kept.kept.pairs c.as_slice.result.now c.ops-ops.ensures.value (its_pairs at) c.as_slice.ensures
-          c.args.self.now c.add_returns.new.self c.args.world.now c.add_returns.new.world grows;
-    })
-    c.add_returns.ensures.ok
-
-pub returns-clause-most : goal.returns-clause-most
-returns-clause-most c =
-    let few = few_pairs (goal.at.returns-clause-most c).After-as_slice in
-    on_ok_weaker c.add_returns.result (λ (most : c.add_returns.new.self.now ≤ c.args.self.now.now + 8000000000 * length c.deref.result.now). omega arith)
-    c.add_returns.ensures.most
+    record {
+      ok = on_ok_weaker c.add_returns.result
+          (λ grows. record {
+            kept = c.in_ok-kept.kept.pairs;
+            keeping = keeping at;
+            greatest = greatest at;
+            grows =
+                grows_by_names c.args.card.now ops c.ops-ops.result.now (pairs_at ops (pulse_before c.args.stages.now.pairs c.args.t)) c.deref.result.now
+                c.in_ok-kept.kept.pairs c.as_slice.result.now c.ops-ops.ensures.value (its_pairs at) c.as_slice.ensures
+                c.args.self.now c.add_returns.new.self c.args.world.now c.add_returns.new.world grows;
+          })
+          c.add_returns.ensures.ok;
+    }
