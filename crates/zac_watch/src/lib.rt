@@ -1,0 +1,23 @@
+//! Judges of programs: the named order of a program's steps, watches to which the steps of a legal run are shown, and
+//! the replay of a program against the circuit that it is to perform.
+//!
+//! The named order goes by begin, then by instruction, then by place: it is one of the orders that the times of a
+//! program allow, if each step takes time. Of a text of any origin nothing else is judged here.
+#![tactic(auto)]
+
+mod judging;
+pub mod kind;
+mod lengths;
+pub mod order;
+pub mod replaying;
+mod slot;
+mod steps;
+pub mod watch;
+pub mod watching;
+
+pub use kind::Kind;
+pub use order::named_order;
+pub use replaying::{ReplayFault, replay};
+pub use watch::{Counter, Watch};
+pub use watching::{WatchFault, watched};
+pub use zac_memory::Memory;
