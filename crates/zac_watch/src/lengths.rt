@@ -26,12 +26,7 @@ fn job_lasts(card: &Card, steps: &[Step]) -> u128
 fn gates_last(card: &Card, ones: &[OneGate]) -> u128
     ensures { LastTogether card.now.figures [] (map (λ gate. One gate) ones.now) result }
 {
-    let duration = u128::from(card.figures().one);
-    let mut lasts = 0;
-    for _ in ones {
-        lasts += duration;
-    }
-    lasts
+    ones.len() as u128 * u128::from(card.figures().one)
 }
 
 /// How long the steps of an act take together.

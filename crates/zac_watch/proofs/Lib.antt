@@ -1,0 +1,5 @@
+pub mod OrderFacts
+pub mod Prefixes
+pub mod ShownFacts
+pub mod SlotFacts
+pub mod TimedFacts
