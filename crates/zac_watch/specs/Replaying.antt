@@ -20,8 +20,8 @@ use Rattle.zair_state.specs.Orders.{IsNamedOrder}
 use Rattle.zair_state.specs.Performs.{steps_in}
 use Rattle.zair_state.specs.Run.{IsLegalRun, after_all, entries, log_of}
 use Rattle.zair_state.specs.State.{State, opening}
-use Rattle.zac_watch.specs.declared.replaying.ReplayFault.{ReplayFault}
-use Rattle.zac_watch.specs.declared.replaying.ReplayFault.TheVariants.{Qubits, Home, Length, Machine, Check, Missing, Memory}
+use Rattle.zac_watch.specs.declared.fault.ReplayFault.{ReplayFault}
+use Rattle.zac_watch.specs.declared.fault.ReplayFault.TheVariants.{Qubits, Home, Length, Machine, Check, Missing, Memory}
 use Rattle.zac_watch.specs.Judging.{AreRefused}
 use Rattle.zac_watch.specs.Watching.{HasHomes, IsFirstIllegal}
 

@@ -5,59 +5,20 @@ ghost use Rattle.zac_gates.specs.Checklist.{IsPerformable};
 ghost use Rattle.zair_form.specs.declared.step.Step.{Step};
 ghost use Rattle.zair_form.specs.declared.step.Step.TheVariants as step;
 ghost use Rattle.zair_form.specs.Steps.{IsStepAt};
+ghost use Rattle.zair_state.specs.FirstFault.{IsFirstFault};
+ghost use Rattle.zair_state.specs.Legal.{IsLegal};
+ghost use Rattle.zair_state.specs.Result.{after};
 ghost use Rattle.zair_state.specs.Run.{entries};
+ghost use Rattle.zair_state.specs.declared.fault.MachineFault.{MachineFault};
+ghost use Rattle.zac_watch.specs.declared.fault.ReplayFault.TheVariants as told;
 ghost use Rattle.zac_watch.specs.Judging.{IsStepFault, ArePerformed, AreRefused, WasDone};
 
+use crate::fault::ReplayFault;
 use crate::steps::held_step;
 use std::alloc::Global;
 use zac_gates::{CheckFault, Checklist, Circuit, Op};
-use zac_memory::Memory;
 use zair_form::{OneGate, PairOf, Program, ReadOf, Step};
-use zair_machine::{Machine, MachineFault};
-
-/// Why a step isn't right.
-#[derive(Clone, Copy, Debug)]
-pub enum StepFault {
-    /// It isn't legal.
-    Machine { fault: MachineFault },
-    /// It is legal, and an op of it can't be performed.
-    Check { fault: CheckFault },
-    /// There was no memory.
-    Memory,
-}
-
-impl From<Memory> for StepFault {
-    ghost use Rattle.std.specs.Prelude.{◌≡◌};
-    ghost use Rattle.zac_watch.specs.declared.judging.StepFault.TheVariants as fault;
-
-    ghost from_gives = { λ _ e. e ≡ fault.Memory };
-
-    fn from(_error: Memory) -> StepFault {
-        StepFault::Memory
-    }
-}
-
-impl From<MachineFault> for StepFault {
-    ghost use Rattle.std.specs.Prelude.{◌≡◌};
-    ghost use Rattle.zac_watch.specs.declared.judging.StepFault.TheVariants as fault;
-
-    ghost from_gives = { λ f e. e ≡ fault.Machine f };
-
-    fn from(fault: MachineFault) -> StepFault {
-        StepFault::Machine { fault }
-    }
-}
-
-impl From<CheckFault> for StepFault {
-    ghost use Rattle.std.specs.Prelude.{◌≡◌};
-    ghost use Rattle.zac_watch.specs.declared.judging.StepFault.TheVariants as fault;
-
-    ghost from_gives = { λ f e. e ≡ fault.Check f };
-
-    fn from(fault: CheckFault) -> StepFault {
-        StepFault::Check { fault }
-    }
-}
+use zair_machine::Machine;
 
 /// Performs a one-qubit gate.
 fn perform_gate(
@@ -72,7 +33,8 @@ fn perform_gate(
     ensures err { IfErr result (AreRefused circuit.now.ops checklist.old.log (entries (step.One gate))) }
 {
     let OneGate { op, q, angles } = gate;
-    checklist.perform(circuit, op, &Op::One { q, angles })
+    checklist.perform(circuit, op, &Op::One { q, angles })?;
+    Ok(())
 }
 
 /// Performs the pairs of a pulse, in their order.
@@ -141,36 +103,55 @@ fn perform_ops(
     }
 }
 
-/// Does a step of a program on the machine, and performs its ops on the checklist.
+/// Does a step on the machine. It is told as the step of this number.
+fn do_step(machine: &mut Machine<'_>, step: &Step, number: u64) -> Result<(), ReplayFault>
+    ensures ok { OnOk result (IsLegal machine.old.card machine.old.state step.now
+        × (machine.new ≡ record { card = machine.old.card; state = after machine.old.state step.now })) }
+    ensures err { IfErr result (λ fault. (f : MachineFault) × (fault ≡ told.Machine number f)
+        × IsFirstFault machine.old.card machine.old.state step.now f × (machine.new ≡ machine.old)) }
+{
+    match machine.step(step) {
+        Ok(()) => Ok(()),
+        Err(fault) => Err(ReplayFault::Machine {
+            step: number,
+            fault,
+        }),
+    }
+}
+
+/// Does the step at a place of an instruction on the machine, and performs its ops on the checklist. It is told as the
+/// step of this number.
 pub fn judge(
     alloc: Global,
     circuit: &Circuit,
     program: &Program,
+    number: u64,
     instr: u64,
     place: u64,
     machine: &mut Machine<'_>,
     checklist: &mut Checklist<'_>,
-) -> Result<(), StepFault>
+) -> Result<(), ReplayFault>
     requires has { (s : Step) × IsStepAt program.now instr place s }
     requires its_circuit { checklist.old.circuit ≡ circuit.now }
     requires performable { IsPerformable circuit.now.ops checklist.old.log }
-    ensures card { machine.new.card ≡ machine.old.card }
     ensures circuit { checklist.new.circuit ≡ circuit.now }
-    ensures ok { OnOk result ((s : Step) → IsStepAt program.now instr place s → WasDone machine.old.card circuit.now.ops
-        machine.old.state checklist.old.log s machine.new.state checklist.new.log) }
-    ensures err { IfErr result (λ fault. (s : Step) → IsStepAt program.now instr place s → IsStepFault machine.old.card
-        circuit.now.ops machine.old.state checklist.old.log s fault) }
+    ensures ok { OnOk result ((s : Step) → IsStepAt program.now instr place s → WasDone circuit.now.ops
+        machine.old checklist.old.log s machine.new checklist.new.log) }
+    ensures err { IfErr result (λ fault. (s : Step) → IsStepAt program.now instr place s → IsStepFault
+        circuit.now.ops machine.old checklist.old.log s number fault) }
 {
     match held_step(program, instr, place) {
-        Some(held) => {
-            machine.step(held)?;
-            Ok(())
-        }
+        Some(held) => do_step(machine, held, number),
         None => {
             let own = program.step_of(alloc, instr, place)?;
-            machine.step(&own)?;
-            perform_ops(checklist, circuit, own)?;
-            Ok(())
+            do_step(machine, &own, number)?;
+            match perform_ops(checklist, circuit, own) {
+                Ok(()) => Ok(()),
+                Err(fault) => Err(ReplayFault::Check {
+                    step: number,
+                    fault,
+                }),
+            }
         }
     }
 }

@@ -5,6 +5,7 @@
 //! program allow, if each step takes time. Of a text of any origin nothing else is judged here.
 #![tactic(auto)]
 
+pub mod fault;
 mod judging;
 pub mod kind;
 mod lengths;
@@ -15,9 +16,10 @@ mod steps;
 pub mod watch;
 pub mod watching;
 
+pub use fault::{ReplayFault, WatchFault};
 pub use kind::Kind;
 pub use order::named_order;
-pub use replaying::{ReplayFault, replay};
+pub use replaying::replay;
 pub use watch::{Counter, Watch};
-pub use watching::{WatchFault, watched};
+pub use watching::watched;
 pub use zac_memory::Memory;

@@ -3,44 +3,18 @@
 ghost use Rattle.std.specs.Prelude.{◌≡◌, ℕ, ◌+◌, ◌-◌, ◌^◌, [], ◌∷◌, IfErr, OnOk, min};
 ghost use Rattle.zair_form.specs.declared.step.Step.{Step};
 ghost use Rattle.zair_form.specs.Steps.{IsStepAt};
-ghost use Rattle.zair_state.specs.FirstFault.{IsFirstFault};
-ghost use Rattle.zair_state.specs.Legal.{IsLegal};
-ghost use Rattle.zair_state.specs.Result.{after};
 ghost use Rattle.zac_watch.specs.Shown.{WereShown};
-ghost use Rattle.zac_watch.specs.Watching.{IsWatchFault, WasWatched};
+ghost use Rattle.zac_watch.specs.Watching.{IsShowFault, IsWatchFault, WasStepShown, WasWatched};
 ghost use Rattle.zac_watch.specs.Weights.{weight};
 
+use crate::fault::WatchFault;
 use crate::order::named_order;
 use crate::steps::held_step;
 use crate::watch::Watch;
 use std::alloc::Global;
 use zac_arch::Card;
-use zac_memory::Memory;
 use zair_form::{Program, Step};
-use zair_machine::{Machine, MachineFault, NewFault};
-
-/// Why the steps of a program weren't all shown.
-#[derive(Clone, Copy, Debug, PartialEq, Eq)]
-pub enum WatchFault {
-    /// The home of this qubit isn't a storage trap, or is that of a qubit of smaller number. It is the least such
-    /// qubit.
-    Home { q: u32 },
-    /// The step of this number in the named order, counted from 0, is the first that isn't legal.
-    Machine { step: u64, fault: MachineFault },
-    /// There was no memory.
-    Memory,
-}
-
-impl From<Memory> for WatchFault {
-    ghost use Rattle.std.specs.Prelude.{◌≡◌};
-    ghost use Rattle.zac_watch.specs.declared.watching.WatchFault.TheVariants as fault;
-
-    ghost from_gives = { λ _ e. e ≡ fault.Memory };
-
-    fn from(_error: Memory) -> WatchFault {
-        WatchFault::Memory
-    }
-}
+use zair_machine::{Machine, NewFault};
 
 /// Shows a watch a step.
 fn show_one(watch: &mut Box<dyn Watch>, step: &Step)
@@ -56,6 +30,57 @@ fn show(panel: &mut Vec<Box<dyn Watch>>, step: &Step)
 {
     for watch in panel.iter_mut() {
         show_one(watch, step);
+    }
+}
+
+/// Does a step on the machine, and shows it to each watch of a panel, if it is legal. It is told as the step of this
+/// number.
+fn show_if_legal(
+    machine: &mut Machine<'_>,
+    panel: &mut Vec<Box<dyn Watch>>,
+    step: &Step,
+    number: u64,
+) -> Result<(), WatchFault>
+    ensures ok { OnOk result (WasStepShown machine.old machine.new step.now
+        (WereShown (λ w. kind w) (λ w. sum w) panel.old.items panel.new.items)) }
+    ensures err { IfErr result (IsShowFault machine.old number step.now
+        (WereShown (λ w. kind w) (λ w. sum w) panel.old.items panel.new.items)) }
+{
+    match machine.step(step) {
+        Ok(()) => {
+            show(panel, step);
+            Ok(())
+        }
+        Err(fault) => Err(WatchFault::Machine {
+            step: number,
+            fault,
+        }),
+    }
+}
+
+/// Does the step at a place of an instruction on the machine, and shows it to each watch of a panel, if it is legal. It
+/// is told as the step of this number.
+fn show_at(
+    alloc: Global,
+    program: &Program,
+    number: u64,
+    instr: u64,
+    place: u64,
+    machine: &mut Machine<'_>,
+    panel: &mut Vec<Box<dyn Watch>>,
+) -> Result<(), WatchFault>
+    requires { (s : Step) × IsStepAt program.now instr place s }
+    ensures ok { OnOk result ((s : Step) → IsStepAt program.now instr place s → WasStepShown machine.old machine.new s
+        (WereShown (λ w. kind w) (λ w. sum w) panel.old.items panel.new.items)) }
+    ensures err { IfErr result (λ fault. (s : Step) → IsStepAt program.now instr place s → IsShowFault machine.old number s
+        (WereShown (λ w. kind w) (λ w. sum w) panel.old.items panel.new.items) fault) }
+{
+    match held_step(program, instr, place) {
+        Some(held) => show_if_legal(machine, panel, held, number),
+        None => {
+            let own = program.step_of(alloc, instr, place)?;
+            show_if_legal(machine, panel, &own, number)
+        }
     }
 }
 
@@ -85,22 +110,7 @@ pub fn watched(
         Err(NewFault::Memory) => return Err(WatchFault::Memory),
     };
     for (number, (instr, place)) in order.as_slice().iter().enumerate() {
-        let step = number as u64;
-        match held_step(program, *instr, *place) {
-            Some(held) => {
-                if let Err(fault) = machine.step(held) {
-                    return Err(WatchFault::Machine { step, fault });
-                }
-                show(panel, held);
-            }
-            None => {
-                let own = program.step_of(alloc, *instr, *place)?;
-                if let Err(fault) = machine.step(&own) {
-                    return Err(WatchFault::Machine { step, fault });
-                }
-                show(panel, &own);
-            }
-        }
+        show_at(alloc, program, number as u64, *instr, *place, &mut machine, panel)?;
     }
     Ok(())
 }

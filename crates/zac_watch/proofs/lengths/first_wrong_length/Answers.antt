@@ -12,7 +12,7 @@ loop-number-preserved c =
     let i = c.index-instrs-number.result in
     all_more (HasLength c.args.card.now.figures) instrs k i
     (take_more instrs k i c.loop-number-test.true ∙ ap (λ (x : Instr). take k instrs ++ x ∷ []) (sym c.index-instrs-number.is)) c.loop-number.invariant
-    ?
+    (c.has_length.ensures.0 (search (rules, tests)))
 
 pub returns : goal.returns
 returns c = all_whole (HasLength c.args.card.now.figures) c.args.instrs.now c.loop-number.number (omega (arith, c.loop-number-test.false)) c.loop-number.invariant
