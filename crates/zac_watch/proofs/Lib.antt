@@ -5,3 +5,4 @@ pub mod RunFacts
 pub mod ShownFacts
 pub mod SlotFacts
 pub mod TimedFacts
+pub mod WatchFacts

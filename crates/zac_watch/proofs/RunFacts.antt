@@ -1,15 +1,18 @@
 -- Runs of a program's steps in the named order, so far and one step more.
-use Rattle.std.proofs.Common.{◌≡◌, ℕ, zero, suc, ◌+◌, ◌<◌, ◌≤◌, List, [], ◌∷◌, ◌++◌, Some, length, map, take, get_or, slice_get, refl, ap, sym, ◌∙◌, subst, arith}
+use Rattle.std.proofs.Common.{◌≡◌, ℕ, zero, suc, ◌+◌, ◌<◌, ◌≤◌, ◌⊎◌, inl, inr, List, [], ◌∷◌, ◌++◌, Some, length, map, take, get_or, slice_get, refl, ap, sym, ◌∙◌, subst, arith}
 use Rattle.std.specs.List.{AllByRecursion}
+use Rattle.std.proofs.lemmas.Bool.{cases_lt}
 use Rattle.std.proofs.lemmas.List.{length-map, take_more}
 use Rattle.std.proofs.lemmas.Option.{same_Some, slice_get-get_or, slice_get_within}
-use Rattle.zac_arch.specs.Architecture.{Architecture}
+use Rattle.zac_arch.specs.Architecture.{Architecture, storage_count}
+use Rattle.zac_arch.specs.declared.place.TrapId.{TrapId}
 use Rattle.zac_arch.specs.declared.card.Figures.{Figures}
 use Rattle.zair_form.specs.declared.step.Step.{Step}
 use Rattle.zair_form.specs.declared.program.Instr.{Instr}
 use Rattle.zair_form.specs.Steps.{IsStepAt, homes, steps_of}
 use Rattle.zair_form.specs.Times.{Timed, AreTimed, AreTimedSteps}
-use Rattle.zair_machine.specs.Machine.{Running}
+use Rattle.zair_machine.specs.Machine.{IsWrongHome, Running}
+use Rattle.zair_state.specs.Homes.{AreHomes}
 use Rattle.zair_state.specs.Legal.{IsLegal}
 use Rattle.zair_state.specs.Orders.{IsNamedOrder}
 use Rattle.zair_state.specs.Performs.{steps_in}
@@ -68,7 +71,7 @@ steps_at f before (i ∷ is) ts timed =
   where
     more : (xs : List Instr) (x : Instr) → length xs + 1 ≡ length (xs ++ x ∷ [])
     more [] x = refl
-    more (y ∷ xs) x = ap suc (more xs x)
+    more (y ∷ xs) x = omega (arith, more xs x)
 
 -- each step of the named order is the one at its place
 pub order_at : (f : Figures) (program : List Instr) (order : List Timed) → IsNamedOrder f program order → AllByRecursion (λ t. IsStepAt program t.instr t.place t.step) order
@@ -131,4 +134,17 @@ one_more_run a program order k m m' t so_far more legal new = record {
       ∙ ap (λ (s : State). record { card = a; state = s }) (sym (after_more (opening a (homes program)) (take k (steps_in order)) t) ∙ ap (after_all (opening a (homes program))) (sym more));
   legal = subst (IsLegalRun a (opening a (homes program))) (sym more)
       (legal_more a (opening a (homes program)) (take k (steps_in order)) t so_far.legal (legal_here a _ m t so_far.machine legal));
+}
+
+-- where no home is wrong, the homes are those of so many qubits
+pub right_homes : (a : Architecture) (traps : List TrapId) → ((q : ℕ) → ¬ IsWrongHome a traps q) → AreHomes a (length traps) traps
+right_homes a traps right = record {
+  each = refl;
+  in_storage = λ k d within. elim (cases_lt (get_or traps k d).0 (storage_count a)) [
+    | inl lt ↦ lt
+    | inr ge ↦ absurd (right k (get_or traps k d, slice_get-get_or traps k d within, inl ge))
+  ];
+  distinct = λ i j d lt within same.
+      right j (get_or traps j d, slice_get-get_or traps j d within,
+      inr (i, lt, slice_get-get_or traps i d (omega arith) ∙ ap (λ (t : TrapId). Some t) same));
 }
