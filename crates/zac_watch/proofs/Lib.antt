@@ -1,6 +1,7 @@
 pub mod OrderFacts
 pub mod PerformFacts
 pub mod Prefixes
+pub mod ReplayFacts
 pub mod RunFacts
 pub mod ShownFacts
 pub mod SlotFacts

@@ -1,16 +1,16 @@
 -- The sorted slots of a program's steps are those of its named order.
-use Rattle.std.proofs.Common.{◌≡◌, ◌≢◌, ℕ, zero, suc, ◌+◌, ◌<◌, ◌≤◌, ◌⊎◌, inl, inr, List, [], ◌∷◌, ◌++◌, length, map, get_or, set, refl, ap, sym, ◌∙◌, subst, arith}
-use Rattle.std.specs.List.{All, AllPairs, AllByRecursion, Contains, swap}
+use Rattle.std.proofs.Common.{◌≡◌, ◌≢◌, ℕ, zero, suc, ◌+◌, ◌<◌, ◌≤◌, inl, inr, List, [], ◌∷◌, ◌++◌, length, map, get_or, set, refl, ap, sym, ◌∙◌, subst, arith}
+use Rattle.std.specs.List.{AllPairs, AllByRecursion, Contains, swap}
 use Rattle.std.specs.List.Sorted.{IsPermutation, apply_swaps, SwapsInRange}
 use Rattle.std.proofs.lemmas.Bool.{cases_lt}
-use Rattle.std.proofs.lemmas.List.{map-set, get_or-map, length-append, length-map}
+use Rattle.std.proofs.lemmas.List.{map-set, length-append, length-map}
 use Rattle.std.proofs.lemmas.List.Sorted.{Contains-permutation, length_permutation}
 use Rattle.zac_arch.specs.declared.card.Figures.{Figures}
 use Rattle.zair_form.specs.declared.step.Step.{Step}
 use Rattle.zair_form.specs.declared.program.Instr.{Instr}
 use Rattle.zair_form.specs.Steps.{steps_of}
-use Rattle.zair_form.specs.Times.{Timed, IsTimed, AreTimed, AreTimedSteps}
-use Rattle.zair_state.specs.Orders.{IsOrderOf, IsNamedBefore, IsNamedOrder}
+use Rattle.zair_form.specs.Times.{Timed, AreTimed, AreTimedSteps}
+use Rattle.zair_state.specs.Orders.{IsOrderOf, IsNamedBefore}
 use Rattle.zair_state.proofs.Chaining.{EachLater, AllPairs-from_each_later}
 use Rattle.zair_state.proofs.ChainOrder.{all_of_order}
 use Rattle.zair_state.proofs.Membership.{contains_none, contains_here, contains_later, contains_cases}
@@ -96,12 +96,15 @@ order_of [] (y ∷ ys) apart has same = absurd (let e : suc (length ys) ≡ 0 = 
 order_of (x ∷ xs) ys apart has same =
     let split = split_at ys x (has x (contains_here x xs)) in
     let long : length ys ≡ suc (length (split.before ++ split.behind)) = ap length split.is ∙ length_split split.before x split.behind in
-    let short : length (split.before ++ split.behind) ≡ length xs = omega (arith, same) in
-    (split.before, split.behind, split.is,
-    order_of xs (split.before ++ split.behind) apart.1
-    (λ y h. contains_rest split.before x y split.behind (none_same x xs y apart.0 h)
-    (subst (λ (l : List Timed). Contains l y) split.is (has y (contains_later x y xs h))))
-    short)
+    let short : length (split.before ++ split.behind) ≡ length xs = omega (arith, same) in (
+      split.before,
+      split.behind,
+      split.is,
+      order_of xs (split.before ++ split.behind) apart.1
+          (λ y h. contains_rest split.before x y split.behind (none_same x xs y apart.0 h)
+          (subst (λ (l : List Timed). Contains l y) split.is (has y (contains_later x y xs h))))
+          short,
+    )
 
 -- steps of one instruction stand in it, behind the earlier ones
 timed_places : (f : Figures) (n : ℕ) (earlier : List Step) (from : ℕ) (ss : List Step) (ts : List Timed) (k : ℕ) → AreTimed f n earlier from ss ts → k ≤ length earlier →
@@ -109,9 +112,10 @@ timed_places : (f : Figures) (n : ℕ) (earlier : List Step) (from : ℕ) (ss : 
 timed_places f n earlier from [] [] k timed low = tt
 timed_places f n earlier from [] (t ∷ ts) k timed low = absurd timed
 timed_places f n earlier from (s ∷ ss) [] k timed low = absurd timed
-timed_places f n earlier from (s ∷ ss) (t ∷ ts) k timed low =
-    ((timed.0.instr, omega (arith, timed.0.place)),
-    timed_places f n (earlier ++ s ∷ []) t.end ss ts k timed.1 (omega (arith, length-append earlier (s ∷ []))))
+timed_places f n earlier from (s ∷ ss) (t ∷ ts) k timed low = (
+  (timed.0.instr, omega (arith, timed.0.place)),
+  timed_places f n (earlier ++ s ∷ []) t.end ss ts k timed.1 (omega (arith, length-append earlier (s ∷ []))),
+)
 
 all_map : {X : Type 0} (P Q : X → Type 0) (xs : List X) → ((x : X) → P x → Q x) → AllByRecursion P xs → AllByRecursion Q xs
 all_map P Q [] f h = tt
@@ -128,9 +132,10 @@ timed_apart f n earlier from (s ∷ ss) [] timed = absurd timed
 timed_apart f n earlier from (s ∷ ss) (t ∷ ts) timed =
     let more : length (earlier ++ s ∷ []) ≡ length earlier + 1 = length-append earlier (s ∷ []) in
     let later = timed_places f n (earlier ++ s ∷ []) t.end ss ts (length earlier + 1) timed.1 (omega arith) in
-    let place : t.place ≡ length earlier = timed.0.place in
-    (all_map (λ (u : Timed). (u.instr ≡ n) × (length earlier + 1 ≤ u.place)) (StandApart t) ts (λ u h same. omega (arith, h.1, same.1)) later,
-    timed_apart f n (earlier ++ s ∷ []) t.end ss ts timed.1)
+    let place : t.place ≡ length earlier = timed.0.place in (
+      all_map (λ (u : Timed). (u.instr ≡ n) × (length earlier + 1 ≤ u.place)) (StandApart t) ts (λ u h same. omega (arith, h.1, same.1)) later,
+      timed_apart f n (earlier ++ s ∷ []) t.end ss ts timed.1,
+    )
 
 -- steps of later instructions stand in later ones
 later_instrs : (f : Figures) (p : ℕ) (program : List Instr) (ts : List Timed) → AreTimedSteps f p program ts → AllByRecursion (λ t. p ≤ t.instr) ts
@@ -199,17 +204,20 @@ in_named_order f program given sorted places are permutes rising places_are =
     let order : List Timed = lift.order in
     let apart = steps_apart f 0 program timed are.1 in
     let same = order_of timed order apart (λ x h. Contains-permutation timed order x lift.permutes h) (length_permutation timed order lift.permutes) in
-    let pairs = AllPairs-from_each_later StandApart order (order_apart timed order same apart) in
-    (order, record {
-      steps = timed;
-      timed = are.1;
-      same = same;
-      named = λ i j d lt j_in.
-          let i_in : i < length order = omega arith in
-          let le = rising i j (slot_of d) lt (subst (λ (n : ℕ). j < n) (sym (ap length lift.is ∙ length-map order slot_of)) j_in) in
-          let at_i : get_or sorted i (slot_of d) ≡ slot_of (get_or order i d) = ap (λ (l : List Slot). get_or l i (slot_of d)) lift.is ∙ get_or-map_default slot_of order i d in
-          let at_j : get_or sorted j (slot_of d) ≡ slot_of (get_or order j d) = ap (λ (l : List Slot). get_or l j (slot_of d)) lift.is ∙ get_or-map_default slot_of order j d in
-          strictly (get_or order i d) (get_or order j d)
-          (subst (λ (s : Slot). IsNoLater s (slot_of (get_or order j d))) at_i (subst (λ (s : Slot). IsNoLater (get_or sorted i (slot_of d)) s) at_j le))
-          (pairs i j d lt j_in);
-    }, places_are ∙ ap (map (λ (s : Slot). (s.instr, s.place))) lift.is ∙ places-map order)
+    let pairs = AllPairs-from_each_later StandApart order (order_apart timed order same apart) in (
+      order,
+      record {
+        steps = timed;
+        timed = are.1;
+        same = same;
+        named = λ i j d lt j_in.
+            let i_in : i < length order = omega arith in
+            let le = rising i j (slot_of d) lt (subst (λ (n : ℕ). j < n) (sym (ap length lift.is ∙ length-map order slot_of)) j_in) in
+            let at_i : get_or sorted i (slot_of d) ≡ slot_of (get_or order i d) = ap (λ (l : List Slot). get_or l i (slot_of d)) lift.is ∙ get_or-map_default slot_of order i d in
+            let at_j : get_or sorted j (slot_of d) ≡ slot_of (get_or order j d) = ap (λ (l : List Slot). get_or l j (slot_of d)) lift.is ∙ get_or-map_default slot_of order j d in
+            strictly (get_or order i d) (get_or order j d)
+            (subst (λ (s : Slot). IsNoLater s (slot_of (get_or order j d))) at_i (subst (λ (s : Slot). IsNoLater (get_or sorted i (slot_of d)) s) at_j le))
+            (pairs i j d lt j_in);
+      },
+      places_are ∙ ap (map (λ (s : Slot). (s.instr, s.place))) lift.is ∙ places-map order,
+    )

@@ -1,5 +1,5 @@
 -- Runs of a program's steps in the named order, so far and one step more.
-use Rattle.std.proofs.Common.{◌≡◌, ℕ, zero, suc, ◌+◌, ◌<◌, ◌≤◌, ◌⊎◌, inl, inr, List, [], ◌∷◌, ◌++◌, Some, length, map, take, get_or, slice_get, refl, ap, sym, ◌∙◌, subst, arith}
+use Rattle.std.proofs.Common.{◌≡◌, ℕ, zero, suc, ◌+◌, ◌<◌, inl, inr, List, [], ◌∷◌, ◌++◌, Some, length, take, get_or, slice_get, refl, ap, sym, ◌∙◌, subst, arith}
 use Rattle.std.specs.List.{AllByRecursion}
 use Rattle.std.proofs.lemmas.Bool.{cases_lt}
 use Rattle.std.proofs.lemmas.List.{length-map, take_more}
@@ -44,10 +44,11 @@ timed_at f n earlier from [] (t ∷ ts) timed = absurd timed
 timed_at f n earlier from (s ∷ ss) [] timed = absurd timed
 timed_at f n earlier from (s ∷ ss) (t ∷ ts) timed =
     let here : slice_get (earlier ++ s ∷ ss) t.place ≡ Some t.step =
-    ap (slice_get (earlier ++ s ∷ ss)) timed.0.place ∙ get_behind earlier s ss ∙ ap (λ (u : Step). Some u) (sym timed.0.step) in
-    ((timed.0.instr, here),
-    subst (λ (l : List Step). AllByRecursion (λ t. (t.instr ≡ n) × (slice_get l t.place ≡ Some t.step)) ts) (append_more earlier s ss)
-    (timed_at f n (earlier ++ s ∷ []) t.end ss ts timed.1))
+    ap (slice_get (earlier ++ s ∷ ss)) timed.0.place ∙ get_behind earlier s ss ∙ ap (λ (u : Step). Some u) (sym timed.0.step) in (
+      (timed.0.instr, here),
+      subst (λ (l : List Step). AllByRecursion (λ t. (t.instr ≡ n) × (slice_get l t.place ≡ Some t.step)) ts) (append_more earlier s ss)
+          (timed_at f n (earlier ++ s ∷ []) t.end ss ts timed.1),
+    )
 
 all_map : {X : Type 0} (P Q : X → Type 0) (xs : List X) → ((x : X) → P x → Q x) → AllByRecursion P xs → AllByRecursion Q xs
 all_map P Q [] f h = tt
@@ -145,6 +146,9 @@ right_homes a traps right = record {
     | inr ge ↦ absurd (right k (get_or traps k d, slice_get-get_or traps k d within, inl ge))
   ];
   distinct = λ i j d lt within same.
-      right j (get_or traps j d, slice_get-get_or traps j d within,
-      inr (i, lt, slice_get-get_or traps i d (omega arith) ∙ ap (λ (t : TrapId). Some t) same));
+      right j (
+        get_or traps j d,
+        slice_get-get_or traps j d within,
+        inr (i, lt, slice_get-get_or traps i d (omega arith) ∙ ap (λ (t : TrapId). Some t) same),
+      );
 }

@@ -1,5 +1,5 @@
 -- Watches of a panel, shown steps one after another.
-use Rattle.std.proofs.Common.{◌≡◌, ◌≢◌, ℕ, zero, suc, ◌+◌, ◌-◌, ◌^◌, ◌<◌, ◌≤◌, ◌⊎◌, inl, inr, min, List, [], ◌∷◌, ◌++◌, Some, length, take, get_or, set, slice_get, refl, ap, sym, ◌∙◌, subst, arith}
+use Rattle.std.proofs.Common.{◌≡◌, ◌≢◌, ℕ, zero, suc, ◌+◌, ◌-◌, ◌^◌, ◌<◌, ◌≤◌, inl, inr, min, List, [], ◌∷◌, Some, length, get_or, set, slice_get, refl, ap, sym, ◌∙◌, arith}
 use Rattle.std.specs.List.{sum_by}
 use Rattle.std.proofs.lemmas.Bool.{cases_lt}
 use Rattle.std.proofs.lemmas.List.Sums.{sum_by-cons}
@@ -52,9 +52,10 @@ one_more_watch {W} kind sum k old new s d w' partly within same_kind new_sum =
             let was : w ≡ before = same_Some w before (sym at_k ∙ partly.left k (omega arith) ∙ ap (slice_get old) (sym here) ∙ old_is) in
             let now : w' ≡ after = same_Some w' after (sym (set_same new k w' within) ∙ ap (slice_get (set new k w')) (sym here) ∙ new_is) in
             let weighs : sum_by (weight (kind w)) (s ∷ []) ≡ weight (kind w) s = omega (arith, sum_by-cons (weight (kind w)) s []) in
-            let total : sum w' ≡ sum_after (kind w) (sum w) (s ∷ []) = new_sum ∙ ap (λ (n : ℕ). min (2 ^ 128 - 1) (sum w + n)) (sym weighs) in
-            (ap kind (sym now) ∙ same_kind ∙ ap kind was,
-            ap sum (sym now) ∙ total ∙ ap (λ (v : W). sum_after (kind v) (sum v) (s ∷ [])) was)
+            let total : sum w' ≡ sum_after (kind w) (sum w) (s ∷ []) = new_sum ∙ ap (λ (n : ℕ). min (2 ^ 128 - 1) (sum w + n)) (sym weighs) in (
+              ap kind (sym now) ∙ same_kind ∙ ap kind was,
+              ap sum (sym now) ∙ total ∙ ap (λ (v : W). sum_after (kind v) (sum v) (s ∷ [])) was,
+            )
       ];
       left = λ i le. set_other new k i w' (λ e. omega arith) ∙ partly.left i (omega arith);
     }

@@ -7,7 +7,7 @@ use Rattle.zair_form.specs.declared.step.OneGate.{OneGate}
 use Rattle.zair_form.specs.declared.step.Step.TheVariants.{One}
 use Rattle.zair_form.specs.declared.program.Instr.{Instr}
 use Rattle.zair_form.specs.Steps.{steps_of}
-use Rattle.zair_form.specs.Times.{Timed, IsTimed, AreTimed, AreTimedSteps, Lasts, LastTogether}
+use Rattle.zair_form.specs.Times.{Timed, AreTimed, AreTimedSteps, Lasts, LastTogether}
 use Rattle.zair_state.proofs.ChainSteps.{Lasts-same}
 use Rattle.zac_watch.specs.declared.slot.Slot.{Slot}
 use Rattle.zac_watch.specs.Slots.{slot_of, WereAdded, AreSlotsOf}
@@ -25,16 +25,18 @@ more_timed : (f : Figures) (n : ℕ) (earlier : List Step) (from : ℕ) (ss : Li
     AreTimed f n earlier from ss ts → Lasts f (earlier ++ ss) s d →
     AreTimed f n earlier from (ss ++ s ∷ []) (ts ++ next_of n (earlier ++ ss) (ended from ts) s d ∷ [])
 more_timed f n earlier from [] [] s d timed lasts =
-    let plain = append-nil earlier in
-    (record {
-      instr = refl;
-      place = ap length plain;
-      step = refl;
-      begin = refl;
-      duration = d;
-      lasts = subst (λ (l : List Step). Lasts f l s d) plain lasts;
-      end = refl;
-    }, tt)
+    let plain = append-nil earlier in (
+      record {
+        instr = refl;
+        place = ap length plain;
+        step = refl;
+        begin = refl;
+        duration = d;
+        lasts = subst (λ (l : List Step). Lasts f l s d) plain lasts;
+        end = refl;
+      },
+      tt,
+    )
 more_timed f n earlier from [] (t ∷ ts) s d timed lasts = absurd timed
 more_timed f n earlier from (r ∷ ss) [] s d timed lasts = absurd timed
 more_timed f n earlier from (r ∷ ss) (t ∷ ts) s d timed lasts =
@@ -63,8 +65,8 @@ pub one_more_added : (f : Figures) (number from : ℕ) (done : List Step) (old :
 one_more_added f number from done old until slots k s d new k_is so_far lasts new_is =
     let t : Timed = next_of number done (ended from so_far.own) s d in
     let begin : slot_of t ≡ record { begin = until; instr = number; place = k } =
-        ap (λ (m : ℕ). record { begin = m; instr = number; place = length done }) (sym so_far.until_is)
-        ∙ ap (λ (m : ℕ). record { begin = until; instr = number; place = m }) (sym k_is) in
+    ap (λ (m : ℕ). record { begin = m; instr = number; place = length done }) (sym so_far.until_is)
+    ∙ ap (λ (m : ℕ). record { begin = until; instr = number; place = m }) (sym k_is) in
     let joined : map slot_of (so_far.own ++ t ∷ []) ≡ map slot_of so_far.own ++ slot_of t ∷ [] = map-append slot_of so_far.own (t ∷ []) in
     record {
       own = so_far.own ++ t ∷ [];
@@ -96,10 +98,11 @@ more_timed_steps f p (j ∷ program) i ts own timed more =
 
 pub one_more_instr : (f : Figures) (program : List Instr) (i : Instr) (slots new : List Slot) → AreSlotsOf f program slots →
     WereAdded f (length program) i.begin (steps_of i.act) slots new → AreSlotsOf f (program ++ i ∷ []) new
-one_more_instr f program i slots new are added =
-    (are.0 ++ added.0,
-    more_timed_steps f 0 program i are.0 added.0 are.1 (subst (λ (n : ℕ). AreTimed f n [] i.begin (steps_of i.act) added.0) (sym (zero-add (length program))) added.1),
-    added.2 ∙ ap (λ (l : List Slot). l ++ map slot_of added.0) are.2 ∙ sym (map-append slot_of are.0 added.0))
+one_more_instr f program i slots new are added = (
+  are.0 ++ added.0,
+  more_timed_steps f 0 program i are.0 added.0 are.1 (subst (λ (n : ℕ). AreTimed f n [] i.begin (steps_of i.act) added.0) (sym (zero-add (length program))) added.1),
+  added.2 ∙ ap (λ (l : List Slot). l ++ map slot_of added.0) are.2 ∙ sym (map-append slot_of are.0 added.0),
+)
 
 -- one step more of a time together
 pub more_together : (f : Figures) (earlier ss : List Step) (s : Step) (t d : ℕ) → LastTogether f earlier ss t → Lasts f (earlier ++ ss) s d →

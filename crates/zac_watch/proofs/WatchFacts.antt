@@ -1,9 +1,9 @@
 -- Watches that are shown the steps of the named order, so far and one step more.
-use Rattle.std.proofs.Common.{◌≡◌, ℕ, zero, suc, ◌+◌, ◌-◌, ◌^◌, ◌<◌, ◌≤◌, ◌⊎◌, inl, inr, min, List, [], ◌∷◌, ◌++◌, Some, length, map, take, get_or, slice_get, refl, ap, sym, ◌∙◌, subst, arith}
+use Rattle.std.proofs.Common.{◌≡◌, ℕ, zero, suc, ◌+◌, ◌-◌, ◌^◌, ◌<◌, ◌≤◌, inr, min, List, [], ◌∷◌, ◌++◌, Some, length, take, get_or, slice_get, refl, ap, sym, ◌∙◌, subst, arith}
 use Rattle.std.specs.List.{sum_by}
 use Rattle.std.proofs.lemmas.List.{length-map, take_all}
-use Rattle.std.proofs.lemmas.List.Sums.{sum_by-cons, sum_by-append}
-use Rattle.std.proofs.lemmas.Option.{same_Some, slice_get-get_or, slice_get_within}
+use Rattle.std.proofs.lemmas.List.Sums.{sum_by-append}
+use Rattle.std.proofs.lemmas.Option.{slice_get_within}
 use Rattle.zac_arch.specs.Architecture.{Architecture}
 use Rattle.zair_form.specs.declared.step.Step.{Step}
 use Rattle.zair_form.specs.declared.program.Instr.{Instr}
@@ -22,8 +22,7 @@ use Rattle.zac_watch.specs.Named.{places_in}
 use Rattle.zac_watch.specs.Shown.{WereShown, sum_after}
 use Rattle.zac_watch.specs.Watching.{HasHomes, IsShowFault, IsWatchFault, WasStepShown, WasWatched}
 use Rattle.zac_watch.specs.Weights.{weight}
-use Rattle.zac_watch.proofs.RunFacts.{IsAtPlace, IsRunSoFar, at_place, none_run, one_more_run, one_step_at}
-use Rattle.zac_watch.proofs.ShownFacts.{nothing_shown}
+use Rattle.zac_watch.proofs.RunFacts.{IsRunSoFar, at_place, one_more_run}
 
 -- the steps before this number were done and shown
 pub record IsShownSoFar (a : Architecture) (program : List Instr) (places : List (ℕ × ℕ)) (k : ℕ) (m : Running) (Shown : List Step → Type 0) : Type 0 where
@@ -58,10 +57,11 @@ shown_more {W} kind sum old mid new steps s first second = record {
       let between = get_some new mid k after (sym second.number) new_is in
       let m : W = between.0 in
       let one = first.each k before m old_is between.1 in
-      let other = second.each k m after between.1 new_is in
-      (other.0 ∙ one.0,
-      other.1 ∙ ap (λ (d : Kind). sum_after d (sum m) (s ∷ [])) one.0 ∙ ap (λ (n : ℕ). sum_after (kind before) n (s ∷ [])) one.1
-      ∙ sum_after_more (kind before) (sum before) steps s);
+      let other = second.each k m after between.1 new_is in (
+        other.0 ∙ one.0,
+        other.1 ∙ ap (λ (d : Kind). sum_after d (sum m) (s ∷ [])) one.0 ∙ ap (λ (n : ℕ). sum_after (kind before) n (s ∷ [])) one.1
+            ∙ sum_after_more (kind before) (sum before) steps s,
+      );
 }
 
 -- watches that were shown steps and then nothing

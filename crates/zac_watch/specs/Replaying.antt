@@ -1,5 +1,5 @@
 -- What the replay of a program against a circuit judges.
-use Rattle.std.specs.Prelude.{◌≡◌, ◌≢◌, ℕ, Some, List, ◌++◌, length, take}
+use Rattle.std.specs.Prelude.{◌≡◌, ◌≢◌, ℕ, Some, List, length, take}
 use Rattle.std.specs.List.{slice_get, All}
 use Rattle.zac_arch.specs.Architecture.{Architecture}
 use Rattle.zac_arch.specs.declared.card.Figures.{Figures}
@@ -12,7 +12,6 @@ use Rattle.zair_form.specs.declared.program.Instr.{Instr}
 use Rattle.zair_form.specs.Steps.{homes}
 use Rattle.zair_form.specs.Times.{Timed, HasLength}
 use Rattle.zair_machine.specs.Machine.{IsWrongHome}
-use Rattle.zair_state.specs.declared.fault.MachineFault.{MachineFault}
 use Rattle.zair_state.specs.Homes.{AreHomes}
 use Rattle.zair_state.specs.Least.{IsLeastOf}
 use Rattle.zair_state.specs.Legal.{IsLegal}
@@ -23,7 +22,7 @@ use Rattle.zair_state.specs.State.{State, opening}
 use Rattle.zac_watch.specs.declared.fault.ReplayFault.{ReplayFault}
 use Rattle.zac_watch.specs.declared.fault.ReplayFault.TheVariants.{Qubits, Home, Length, Machine, Check, Missing, Memory}
 use Rattle.zac_watch.specs.Judging.{AreRefused}
-use Rattle.zac_watch.specs.Watching.{HasHomes, IsFirstIllegal}
+use Rattle.zac_watch.specs.Watching.{IsFirstIllegal}
 
 -- The program's homes are homes of the circuit's qubits, each instruction takes as long as its steps, and this is the
 -- named order of its steps.

@@ -1,7 +1,7 @@
 -- What steps weigh for the kinds of watches.
 use Rattle.std.specs.Prelude.{ℕ, List, length, codes}
 use Rattle.zair_form.specs.declared.step.Step.{Step}
-use Rattle.zair_form.specs.declared.step.Step.TheVariants.{Activate, Move, Deactivate, One, Pulse, Readout}
+use Rattle.zair_form.specs.declared.step.Step.TheVariants.{Activate, Move, One, Pulse, Readout}
 use Rattle.zac_watch.specs.declared.kind.Kind.{Kind}
 use Rattle.zac_watch.specs.declared.kind.Kind.TheVariants.{Gates, Moves, Pairs, Picks, Pulses, Reads}
 

@@ -110,7 +110,15 @@ pub fn watched(
         Err(NewFault::Memory) => return Err(WatchFault::Memory),
     };
     for (number, (instr, place)) in order.as_slice().iter().enumerate() {
-        show_at(alloc, program, number as u64, *instr, *place, &mut machine, panel)?;
+        show_at(
+            alloc,
+            program,
+            number as u64,
+            *instr,
+            *place,
+            &mut machine,
+            panel,
+        )?;
     }
     Ok(())
 }

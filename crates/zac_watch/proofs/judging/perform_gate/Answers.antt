@@ -1,4 +1,4 @@
-use Rattle.std.proofs.Common.{◌≡◌, List, ◌∷◌, [], ap, refl, subst}
+use Rattle.std.proofs.Common.{List, ◌∷◌, [], ap, refl, subst}
 use Rattle.std.proofs.lemmas.Result.{err_from_is_err_and}
 use Rattle.zac_gates.specs.declared.circuit.Op.{Op}
 use Rattle.zac_gates.specs.declared.circuit.Op.TheVariants as op

@@ -1,5 +1,4 @@
 use Rattle.std.proofs.Common.{◌≡◌, map, take}
-use Rattle.zac_gates.specs.Log.{Entry}
 use Rattle.zac_gates.specs.declared.circuit.Op.TheVariants as op
 use Rattle.zac_watch.specs.Judging.{ArePerformed}
 use Rattle.zac_watch.proofs.judging.perform_reads.Given as goal

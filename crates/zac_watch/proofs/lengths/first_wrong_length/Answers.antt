@@ -1,4 +1,4 @@
-use Rattle.std.proofs.Common.{◌∙◌, ◌≡◌, ◌++◌, ◌∷◌, [], ap, sym, take, arith, rules, tests}
+use Rattle.std.proofs.Common.{◌∙◌, ◌++◌, ◌∷◌, [], ap, sym, take, arith, rules, tests}
 use Rattle.std.proofs.lemmas.List.{take_more}
 use Rattle.zair_form.specs.Times.{HasLength}
 use Rattle.zair_form.specs.declared.program.Instr.{Instr}

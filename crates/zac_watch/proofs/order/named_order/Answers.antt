@@ -1,4 +1,4 @@
-use Rattle.std.proofs.Common.{◌∙◌, ◌≡◌, ℕ, List, map, ap}
+use Rattle.std.proofs.Common.{◌∙◌, map, ap}
 use Rattle.zac_watch.specs.declared.slot.Slot.{Slot}
 use Rattle.zac_watch.proofs.OrderFacts.{in_named_order}
 use Rattle.zac_watch.proofs.order.named_order.Goals as goal

@@ -1,9 +1,8 @@
-use Rattle.std.proofs.Common.{◌≡◌, ◌+◌, ◌<◌, ◌≤◌, ◌*◌, ◌++◌, ℕ, List, [], ◌∷◌, length, take, ap, sym, ◌∙◌, subst, arith, rules}
+use Rattle.std.proofs.Common.{◌≡◌, ◌+◌, ◌<◌, ◌++◌, List, [], ◌∷◌, length, take, ap, sym, ◌∙◌, subst, arith}
 use Rattle.std.proofs.lemmas.List.{take_more, length-take-le}
 use Rattle.zair_form.specs.Timing.{AreLastOf}
 use Rattle.zair_form.specs.Times.{Lasts}
 use Rattle.zair_form.specs.declared.step.Step.{Step}
-use Rattle.zac_watch.specs.declared.slot.Slot.{Slot}
 use Rattle.zac_watch.proofs.TimedFacts.{IsAddedSoFar, one_more_added}
 use Rattle.zac_watch.proofs.slot.add_job.Goals as goal
 

@@ -1,4 +1,4 @@
-use Rattle.std.proofs.Common.{◌≡◌, ◌<◌, ℕ, [], ◌∷◌, length, subst, sym, ◌∙◌, arith}
+use Rattle.std.proofs.Common.{◌<◌, ℕ, [], ◌∷◌, subst, sym, ◌∙◌, arith}
 use Rattle.std.proofs.lemmas.List.{take_at}
 use Rattle.zac_watch.specs.Shown.{WereShown}
 use Rattle.zac_watch.proofs.ShownFacts.{one_more_watch, all_shown}

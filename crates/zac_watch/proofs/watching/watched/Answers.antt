@@ -1,4 +1,4 @@
-use Rattle.std.proofs.Common.{◌≡◌, ℕ, [], Some, List, ap, sym, ◌∙◌, subst, arith}
+use Rattle.std.proofs.Common.{ℕ, Some, List, ap, sym, ◌∙◌, subst}
 use Rattle.std.proofs.lemmas.Result.{err_from_is_err_and}
 use Rattle.zac_arch.specs.declared.place.TrapId.{TrapId}
 use Rattle.zair_form.specs.Steps.{homes}
