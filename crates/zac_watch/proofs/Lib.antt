@@ -1,3 +1,5 @@
+pub mod NoFault
+pub mod OneOrder
 pub mod OrderFacts
 pub mod PerformFacts
 pub mod Prefixes

@@ -8,6 +8,7 @@
 pub mod fault;
 mod judging;
 pub mod kind;
+pub mod laws;
 mod lengths;
 pub mod order;
 pub mod replaying;
@@ -18,6 +19,10 @@ pub mod watching;
 
 pub use fault::{ReplayFault, WatchFault};
 pub use kind::Kind;
+pub use laws::{
+    named_orders_are_one, performing_programs_are_watched_whole, performing_programs_replay,
+    replays_have_no_fault,
+};
 pub use order::named_order;
 pub use replaying::replay;
 pub use watch::{Counter, Watch};
