@@ -1,0 +1,11 @@
+pub mod NoFault
+pub mod OneOrder
+pub mod OrderFacts
+pub mod PerformFacts
+pub mod Prefixes
+pub mod ReplayFacts
+pub mod RunFacts
+pub mod ShownFacts
+pub mod SlotFacts
+pub mod TimedFacts
+pub mod WatchFacts
