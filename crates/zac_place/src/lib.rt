@@ -11,8 +11,11 @@ pub mod laws;
 mod offer;
 mod offsets;
 mod placed;
+mod proposal;
 mod returning;
 mod sites;
+mod site_proposal;
+mod solver;
 mod uses;
 
 pub use homing::homes;
