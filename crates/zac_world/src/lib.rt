@@ -2,11 +2,9 @@
 #![tactic(auto)]
 
 mod block;
-mod free;
 mod nearest;
 mod span;
 mod walk;
 mod world;
 
-pub use walk::Candidate;
 pub use world::World;

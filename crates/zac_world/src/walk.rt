@@ -14,7 +14,7 @@ use zac_memory::Memory;
 
 /// An empty storage trap, and how far it is.
 #[derive(Clone, Copy)]
-pub struct Candidate {
+pub(crate) struct Candidate {
     /// Its distance: `|dx| + |dy|`.
     pub distance: u32,
     /// The trap.
