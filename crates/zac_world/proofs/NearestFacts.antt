@@ -12,7 +12,8 @@ use Rattle.zac_arch.specs.declared.place.Point.{Point}
 use Rattle.zac_world.specs.Around.{AreAround, IsBefore, IsBetween}
 use Rattle.zac_world.specs.Blocks.{AreBlocks, block_distance, size_of}
 use Rattle.zac_world.specs.Places.{Places}
-use Rattle.zac_world.specs.Walks.{candidates_in, distance_from}
+use Rattle.zac_world.specs.Nearest.{distance_from}
+use Rattle.zac_world.specs.Walks.{candidates_in}
 use Rattle.zac_world.specs.declared.block.Block.{Block}
 use Rattle.zac_world.specs.declared.walk.Candidate.{Candidate}
 use Rattle.std.proofs.lemmas.List.{get_or_default}
