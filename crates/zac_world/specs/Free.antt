@@ -20,8 +20,14 @@ abbrev pub rank_of : Option Candidate → ℕ
 rank_of None = 2000001 * 65536
 rank_of (Some c) = c.distance * 65536 + c.trap.0
 
+-- no trap has a greater number, and none is farther from a point of the field
+pub record HasLimits (c : Candidate) : Type 0 where
+  pub few : c.trap.0 < 65536
+  pub near : c.distance ≤ 2000000
+
 -- a free storage trap with its distance
 pub record IsFound (p : Places) (marks : List Bool) (from : Point) (c : Candidate) : Type 0 where
+  pub limits : HasLimits c
   pub in_storage : c.trap.0 < storage_count p.architecture
   pub free : is_free p marks c.trap.0 ≡ true
   pub distance_is : c.distance ≡ distance_from p.architecture from c.trap.0
