@@ -54,11 +54,16 @@ abbrev pub IsBeforeFree : Row → Row → Type 0
 IsBeforeFree r other =
     IfSome r.free (λ c. (apart r.origin other.place < c.distance) ⊎ ((apart r.origin other.place ≡ c.distance) × (other.target.0 < c.trap.0)))
 
+-- for the row itself, or for some row, the row's target comes before each trap that is left free
+abbrev pub IsNear : List Row → Row → Type 0
+IsNear rows r =
+    IsBeforeFree r r ⊎ ((k : ℕ) × (k < length rows) × ((d : Row) → IsBeforeFree (slice_index_or rows k d) r))
+
 -- the row's price is at most what it pays anywhere, and its target is near to some row
 pub record IsJudged (rows : List Row) (r : Row) : Type 0 where
   pub bound : (k : ℕ) (d : Row) → k < length rows → IsBounded r (slice_index_or rows k d)
   pub at_free : IfSome r.free (λ c. r.price ≤ c.distance)
-  pub near : (k : ℕ) × (k < length rows) × ((d : Row) → IsBeforeFree (slice_index_or rows k d) r)
+  pub near : IsNear rows r
 
 -- the targets are a placing that the prices prove, where a trap that is no target has the price 0; and they are near
 pub record IsProved (p : Places) (leaving targets : List ℕ) (row_price : List ℤ) : Type 0 where

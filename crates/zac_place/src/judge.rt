@@ -162,22 +162,35 @@ fn comes_before_free(row: Row, other: Row) -> bool
     }
 }
 
-/// Whether a row's target comes for some row before each trap that is left free. The row itself is tried first.
-fn is_near(rows: &[Row], own: usize) -> bool
+/// Whether a row's target comes for some row before each trap that is left free.
+fn comes_before_some(row: Row, rows: &[Row]) -> bool
+    requires row { HasRoom row }
     requires rows { All HasRoom rows.now }
-    requires own_in { own < length rows.now }
-    ensures { IsTrue result → (d : Row) → (k : ℕ) × (k < length rows.now)
-        × ((e : Row) → IsBeforeFree (slice_index_or rows.now k e) (slice_index_or rows.now own d)) }
+    ensures { IsTrue result → (k : ℕ) × (k < length rows.now)
+        × ((d : Row) → IsBeforeFree (slice_index_or rows.now k d) row) }
 {
-    if comes_before_free(rows[own], rows[own]) {
-        return true;
-    }
-    for k in 0..rows.len() {
-        if comes_before_free(rows[k], rows[own]) {
+    for other in rows {
+        if comes_before_free(*other, row) {
             return true;
         }
     }
     false
+}
+
+/// Whether a row's price is at most what it pays anywhere, and its target is near to some row. The row itself is tried
+/// first.
+fn is_judged(row: Row, rows: &[Row]) -> bool
+    requires row { HasRoom row }
+    requires rows { All HasRoom rows.now }
+    ensures { IsTrue result → IsJudged rows.now row }
+{
+    if !is_below_free(row) || !is_bounded(row, rows) {
+        return false;
+    }
+    if comes_before_free(row, row) {
+        return true;
+    }
+    comes_before_some(row, rows)
 }
 
 /// Whether all rows are judged well. The time is in the square of their number.
@@ -185,8 +198,8 @@ fn are_judged(rows: &[Row]) -> bool
     requires { All HasRoom rows.now }
     ensures { IsTrue result → (k : ℕ) → (d : Row) → k < length rows.now → IsJudged rows.now (slice_index_or rows.now k d) }
 {
-    for own in 0..rows.len() {
-        if !is_below_free(rows[own]) || !is_bounded(rows[own], rows) || !is_near(rows, own) {
+    for row in rows {
+        if !is_judged(*row, rows) {
             return false;
         }
     }

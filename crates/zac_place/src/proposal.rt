@@ -30,6 +30,5 @@ pub(crate) fn propose_returns(
 ) -> Result<Option<Proposal>, Memory>
     requires { All (IsEntangling world.now) leaving.now }
 {
-    let _ = (world, leaving);
     Ok(None)
 }
