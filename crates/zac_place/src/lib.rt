@@ -7,6 +7,7 @@
 
 mod ends;
 mod homing;
+mod judge;
 pub mod laws;
 mod offer;
 mod offsets;
@@ -20,5 +21,5 @@ mod uses;
 
 pub use homing::homes;
 pub use placed::Placed;
-pub use returning::returns;
+pub use returning::{return_targets, returns};
 pub use sites::gate_sites;
