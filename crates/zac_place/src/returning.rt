@@ -7,7 +7,7 @@ ghost use Rattle.zac_assign.specs.Assignment.{cost_at};
 ghost use Rattle.zac_world.specs.Nearest.{trap_distance};
 ghost use Rattle.zac_world.specs.Places.{empty_storage};
 ghost use Rattle.zac_place.specs.Judged.{IsProved};
-ghost use Rattle.zac_place.specs.Offers.{price_of};
+ghost use Rattle.zac_place.specs.Offers.{AreOffered, price_of};
 ghost use Rattle.zac_place.specs.Placing.{IsPlacing, ProvesPlacing, IsLeastPlacing};
 ghost use Rattle.zac_place.specs.Returns.{AreNear, IsEntangling, return_cost};
 ghost use Rattle.zac_place.specs.Tables.{Tabulates};
@@ -99,6 +99,39 @@ fn spread(
     Ok(spread)
 }
 
+/// A placing among the traps that are weighed.
+#[derive(Drop)]
+struct Weighed {
+    /// The traps that are weighed, by rising number.
+    offered: Vec<u32>,
+    /// The placing, with prices of the weighed traps.
+    placed: Placed,
+}
+
+/// The placing over a table of all leaving atoms and all traps that are weighed.
+fn placed_by_table(
+    alloc: Global,
+    card: &Card,
+    world: &World<'_>,
+    leaving: &[u32],
+) -> Result<Weighed, Memory>
+    requires card { world.now.architecture ≡ card.now }
+    requires leaving { All (IsEntangling world.now) leaving.now }
+    requires few { length leaving.now ≤ length (empty_storage world.now) }
+    ensures rising { IfOk result (λ weighed. AllPairs (λ s t. s < t) weighed.offered.items) }
+    ensures offered { IfOk result (λ weighed. AreOffered world.now leaving.now weighed.offered.items) }
+    ensures placing { IfOk result (λ weighed.
+        IsPlacing weighed.offered.items (length leaving.now) weighed.placed.targets) }
+    ensures prices { IfOk result (λ weighed. ProvesPlacing (return_cost world.now leaving.now) weighed.offered.items
+        (length leaving.now) weighed.placed.targets weighed.placed.row_price weighed.placed.column_price) }
+{
+    let _rules = card.figures();
+    let offered = offered_traps(alloc, card, world, leaving)?;
+    let costs = return_costs(alloc, card, world, leaving, offered.as_slice())?;
+    let placed = place(alloc, offered.as_slice(), &costs)?;
+    Ok(Weighed { offered, placed })
+}
+
 /// An empty storage trap for each of the leaving qubits, by trap number in the order of the argument, so that the
 /// distances are least in all. The card is the world's; the qubits rest in entangling traps, and are no more than the empty
 /// storage traps. Prices stand over all empty storage traps, by rising number. The only error is that memory ran out.
@@ -124,14 +157,12 @@ pub fn returns(
     ensures near { IfOk result (λ placed. AreNear world.now leaving.now placed.targets) }
 {
     prices_bound_every_placing();
-    let _rules = card.figures();
-    let offered = offered_traps(alloc, card, world, leaving)?;
-    let costs = return_costs(alloc, card, world, leaving, offered.as_slice())?;
+    let Weighed { offered, placed } = placed_by_table(alloc, card, world, leaving)?;
     let Placed {
         targets,
         row_price,
         column_price,
-    } = place(alloc, offered.as_slice(), &costs)?;
+    } = placed;
     let spread = spread(
         alloc,
         card,
@@ -172,12 +203,33 @@ fn proved_targets(
     Ok(Some(List::of(targets)))
 }
 
+/// The targets of the placing over a table.
+fn table_targets(
+    alloc: Global,
+    card: &Card,
+    world: &World<'_>,
+    leaving: &[u32],
+) -> Result<List<u32>, Memory>
+    requires card { world.now.architecture ≡ card.now }
+    requires leaving { All (IsEntangling world.now) leaving.now }
+    requires few { length leaving.now ≤ length (empty_storage world.now) }
+    ensures placing { IfOk result (λ targets.
+        IsPlacing (empty_storage world.now) (length leaving.now) targets) }
+    ensures least { IfOk result (λ targets. IsLeastPlacing (return_cost world.now leaving.now)
+        (empty_storage world.now) (length leaving.now) targets) }
+    ensures near { IfOk result (λ targets. AreNear world.now leaving.now targets) }
+{
+    prices_bound_every_placing();
+    let Weighed { offered: _, placed } = placed_by_table(alloc, card, world, leaving)?;
+    Ok(placed.targets)
+}
+
 /// The targets that [`returns`] answers, or others at the same cost: an empty storage trap for each of the leaving qubits,
 /// by trap number in the order of the argument, so that the distances are least in all, each near to some qubit. The
 /// requirements and the error are those of [`returns`].
 ///
 /// A proposal is judged by its prices, in a time in the square of the number of the qubits; only where it isn't proved is
-/// the way of [`returns`] taken.
+/// the table of [`returns`] made. Of the card's traps no more is done than to unmark them.
 pub fn return_targets(
     alloc: Global,
     card: &Card,
@@ -196,5 +248,5 @@ pub fn return_targets(
     if let Some(targets) = proved_targets(alloc, card, world, leaving)? {
         return Ok(targets);
     }
-    Ok(returns(alloc, card, world, leaving)?.targets)
+    table_targets(alloc, card, world, leaving)
 }

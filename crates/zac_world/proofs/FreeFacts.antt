@@ -1,25 +1,25 @@
 -- The nearest free trap: columns of a row, rows of a block and blocks that are no better than what was found.
-use Rattle.std.proofs.Common.{◌≡◌, ℕ, ◌+◌, ◌-◌, ◌*◌, ◌<◌, ◌≤◌, ◌⊎◌, inl, inr, Bool, true, false, not, ◌&&◌, IsTrue, List, Option, Some, None, length, get_or, refl, sym, ap, ◌∙◌, subst, arith}
+use Rattle.std.proofs.Common.{◌≡◌, ℕ, ◌+◌, ◌-◌, ◌*◌, ◌<◌, ◌≤◌, ◌⊎◌, inl, inr, Bool, true, false, not, List, Option, Some, None, length, get_or, refl, sym, ap, ◌∙◌, subst, arith}
 use Rattle.std.specs.Prelude.{IfSome}
 use Rattle.std.specs.List.{Contains, range_with_len, slice_index_or}
 use Rattle.std.specs.Option.{MatchOption}
-use Rattle.std.proofs.lemmas.Bool.{and_from, and_parts, cases_Bool, cases_lt, not_from_false, false_from_ne_true}
+use Rattle.std.proofs.lemmas.Bool.{and_from, and_parts, cases_lt, not_from_false}
 use Rattle.std.proofs.lemmas.List.{get_or_default}
 use Rattle.std.proofs.lemmas.List.FromFn.{get_or-range_with_len, length-range_with_len}
 use Rattle.std.proofs.lemmas.Nat.{mul-le}
-use Rattle.zac_arch.specs.Architecture.{Architecture, storage_count}
+use Rattle.zac_arch.specs.Architecture.{storage_count}
 use Rattle.zac_arch.specs.Distances.{difference}
 use Rattle.zac_arch.specs.declared.place.Point.{Point}
 use Rattle.zac_world.specs.Blocks.{AreBlocks, IsBlock, block_distance, size_of}
-use Rattle.zac_world.specs.Free.{AreNoBetter, HasLimits, IsFound, IsNoWorse, is_free, rank, rank_of}
+use Rattle.zac_world.specs.Free.{AreNoBetter, HasLimits, IsFound, is_free, rank, rank_of}
 use Rattle.zac_world.specs.Nearest.{IsFree, IsNearestFree, distance_from}
-use Rattle.zac_world.specs.Places.{Places, empty_storage, is_empty}
+use Rattle.zac_world.specs.Places.{Places, is_empty}
 use Rattle.zac_world.specs.declared.block.Block.{Block}
 use Rattle.zac_world.specs.declared.walk.Candidate.{Candidate}
 use Rattle.zac_world.proofs.ListFacts.{contains_filtered, contains_from_filter}
 use Rattle.zac_world.proofs.NearestFacts.{in_blocks}
 use Rattle.zac_world.proofs.RankFacts.{below_storage}
-use Rattle.zac_world.proofs.WalkFacts.{PlaceOf, place_of, row_distance}
+use Rattle.zac_world.proofs.WalkFacts.{place_of, row_distance}
 
 -- ---- columns of a row
 

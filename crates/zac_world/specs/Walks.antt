@@ -1,5 +1,5 @@
 -- The empty storage traps within reach of a point.
-use Rattle.std.specs.Prelude.{ℕ, ◌+◌, ◌≤◌, ◌&&◌, Bool, nat_le, List, map, filter}
+use Rattle.std.specs.Prelude.{ℕ, ◌≤◌, ◌&&◌, Bool, nat_le, List, map, filter}
 use Rattle.std.specs.List.{range_with_len}
 use Rattle.zac_arch.specs.Architecture.{Architecture}
 use Rattle.zac_arch.specs.declared.place.Point.{Point}
