@@ -14,8 +14,8 @@ mod offsets;
 mod placed;
 mod proposal;
 mod returning;
-mod sites;
 mod site_proposal;
+mod sites;
 mod solver;
 mod uses;
 

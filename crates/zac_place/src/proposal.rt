@@ -2,9 +2,8 @@
 //!
 //! Nothing is promised of a proposal; who takes it up judges it by its prices.
 
-ghost use Rattle.std.specs.Prelude.{◌≡◌, ◌<◌, IfOk};
+ghost use Rattle.std.specs.Prelude.{◌≡◌};
 ghost use Rattle.std.specs.List.{All};
-ghost use Rattle.zac_arch.specs.Architecture.{trap_count};
 ghost use Rattle.zac_place.specs.Returns.{IsEntangling};
 
 use crate::offsets::point_of;
@@ -40,8 +39,12 @@ impl Extent {
         let mut high = Point { x: 0, y: 0 };
         for zone in card.zones() {
             if zone.kind == ZoneKind::Storage {
-                let right = zone.x.saturating_add(zone.columns.saturating_sub(1).saturating_mul(zone.dx));
-                let top = zone.y.saturating_add(zone.rows.saturating_sub(1).saturating_mul(zone.dy));
+                let right = zone
+                    .x
+                    .saturating_add(zone.columns.saturating_sub(1).saturating_mul(zone.dx));
+                let top = zone
+                    .y
+                    .saturating_add(zone.rows.saturating_sub(1).saturating_mul(zone.dy));
                 low = Point {
                     x: low.x.min(zone.x),
                     y: low.y.min(zone.y),
@@ -90,6 +93,9 @@ fn apart(a: i32, b: i32) -> i32 {
 impl Market for StorageMarket<'_> {
     fn cheapest(&self, row: usize) -> Option<(i32, u32)> {
         let place = self.places.get(row)?;
+        if place.x > 1_000_000 || place.y > 1_000_000 {
+            return None;
+        }
         let found = self.world.nearest_free(*place, self.taken.as_slice())?;
         Some((i32::try_from(found.distance).ok()?, found.trap.0))
     }
@@ -125,7 +131,10 @@ impl Market for StorageMarket<'_> {
         };
         let x = place.x.cast_signed();
         let y = place.y.cast_signed();
-        for (cost, (column_x, column_y)) in into.iter_mut().zip(self.xs.iter().zip(self.ys.iter())) {
+        for (cost, (column_x, column_y)) in into
+            .iter_mut()
+            .zip(self.xs.iter().zip(self.ys.iter()))
+        {
             *cost = apart(*column_x, x).wrapping_add(apart(*column_y, y));
         }
     }
@@ -139,14 +148,21 @@ struct Places {
 }
 
 /// Atoms whose nearest points of the storage's box are one point are of one class.
-fn places_of(alloc: Global, card: &Card, extent: Extent, traps: &[TrapId]) -> Result<Places, AllocError>
-    requires { All (λ t. t.0 < trap_count card.now) traps.now }
+fn places_of(
+    alloc: Global,
+    card: &Card,
+    world: &World<'_>,
+    extent: Extent,
+    leaving: &[u32],
+) -> Result<Places, AllocError>
+    requires card { world.now.architecture ≡ card.now }
+    requires leaving { All (IsEntangling world.now) leaving.now }
 {
     let mut numbers: BTreeMap<(u32, u32), usize> = BTreeMap::new(alloc);
     let mut points = Vec::new(alloc);
-    let mut classes = Vec::with_capacity(alloc, traps.len())?;
-    for trap in traps {
-        let point = extent.nearest(card.point(*trap));
+    let mut classes = Vec::with_capacity(alloc, leaving.len())?;
+    for q in leaving {
+        let point = extent.nearest(point_of(card, world.trap_of(*q)));
         let class = match numbers.get(&(point.x, point.y)) {
             Some(class) => *class,
             None => {
@@ -165,16 +181,18 @@ fn places_of(alloc: Global, card: &Card, extent: Extent, traps: &[TrapId]) -> Re
 fn prices_of(
     alloc: Global,
     card: &Card,
+    world: &World<'_>,
     extent: Extent,
-    traps: &[TrapId],
+    leaving: &[u32],
     classes: &[usize],
     solved: &Solved,
 ) -> Result<Vec<i64>, Unsolved>
-    requires { All (λ t. t.0 < trap_count card.now) traps.now }
+    requires card { world.now.architecture ≡ card.now }
+    requires leaving { All (IsEntangling world.now) leaving.now }
 {
-    let mut prices = Vec::with_capacity(alloc, traps.len())?;
-    for (trap, class) in traps.iter().zip(classes.iter()) {
-        let point = card.point(*trap);
+    let mut prices = Vec::with_capacity(alloc, leaving.len())?;
+    for (q, class) in leaving.iter().zip(classes.iter()) {
+        let point = point_of(card, world.trap_of(*q));
         let place = extent.nearest(point);
         let price = *solved.prices.get(*class).ok_or(Unsolved::GaveUp)?;
         let off = i64::from(point.x.abs_diff(place.x)) + i64::from(point.y.abs_diff(place.y));
@@ -183,25 +201,17 @@ fn prices_of(
     Ok(prices)
 }
 
-/// The traps in which qubits rest.
-fn traps_of(alloc: Global, world: &World<'_>, qubits: &[u32]) -> Result<Vec<TrapId>, AllocError>
-    requires leaving { All (IsEntangling world.now) qubits.now }
-    ensures { IfOk result (λ traps. All (λ t. t.0 < trap_count world.now.architecture) traps.items) }
-{
-    let mut traps = Vec::with_capacity(alloc, qubits.len())?;
-    for q in qubits {
-        traps.push(world.trap_of(*q))?;
-    }
-    Ok(traps)
-}
-
-fn solved_returns(alloc: Global, card: &Card, world: &World<'_>, leaving: &[u32]) -> Result<Proposal, Unsolved>
+fn solved_returns(
+    alloc: Global,
+    card: &Card,
+    world: &World<'_>,
+    leaving: &[u32],
+) -> Result<Proposal, Unsolved>
     requires card { world.now.architecture ≡ card.now }
     requires leaving { All (IsEntangling world.now) leaving.now }
 {
-    let traps = traps_of(alloc, world, leaving)?;
     let extent = Extent::of(card);
-    let Places { points, classes } = places_of(alloc, card, extent, traps.as_slice())?;
+    let Places { points, classes } = places_of(alloc, card, world, extent, leaving)?;
     let level = match points.as_slice() {
         [] => true,
         [first, rest @ ..] => rest.iter().all(|point| point.y == first.y),
@@ -218,7 +228,15 @@ fn solved_returns(alloc: Global, card: &Card, world: &World<'_>, leaving: &[u32]
         ys: Vec::new(alloc),
     };
     let solved = solve(alloc, &mut market, classes.as_slice(), count)?;
-    let prices = prices_of(alloc, card, extent, traps.as_slice(), classes.as_slice(), &solved)?;
+    let prices = prices_of(
+        alloc,
+        card,
+        world,
+        extent,
+        leaving,
+        classes.as_slice(),
+        &solved,
+    )?;
     let Solved { columns, .. } = solved;
     Ok(Proposal {
         targets: columns,

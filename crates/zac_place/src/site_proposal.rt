@@ -138,7 +138,12 @@ fn ends_of_sites(alloc: Global, card: &Card, free: &[SiteId]) -> Result<Vec<Ends
 }
 
 /// The places of the atoms of gates.
-fn ends_of_gates(alloc: Global, card: &Card, world: &World<'_>, gates: &[(u32, u32)]) -> Result<Vec<Ends>, AllocError>
+fn ends_of_gates(
+    alloc: Global,
+    card: &Card,
+    world: &World<'_>,
+    gates: &[(u32, u32)],
+) -> Result<Vec<Ends>, AllocError>
     requires card { world.now.architecture ≡ card.now }
     requires stored { All (AreStored world.now) gates.now }
 {
@@ -216,7 +221,11 @@ fn market_of(alloc: Global, gates: Vec<Ends>, sites: Vec<Ends>) -> Result<SiteMa
     let mut stack_of = vec![in alloc; 0; sites.len()]?;
     for column in order.iter() {
         let site = *sites.get(*column as usize).ok_or(Unsolved::GaveUp)?;
-        let key = if side == Side::Mixed { *column } else { site.left.x };
+        let key = if side == Side::Mixed {
+            *column
+        } else {
+            site.left.x
+        };
         let stack = match stack_at.get(&key) {
             Some(stack) => *stack,
             None => {
@@ -226,7 +235,10 @@ fn market_of(alloc: Global, gates: Vec<Ends>, sites: Vec<Ends>) -> Result<SiteMa
                 stack
             }
         };
-        stacks.get_mut(stack).ok_or(Unsolved::GaveUp)?.push(*column)?;
+        stacks
+            .get_mut(stack)
+            .ok_or(Unsolved::GaveUp)?
+            .push(*column)?;
         *stack_of.get_mut(*column as usize).ok_or(Unsolved::GaveUp)? = stack;
     }
     let class_of = vec![in alloc; None; stacks.len()]?;
@@ -240,7 +252,13 @@ fn market_of(alloc: Global, gates: Vec<Ends>, sites: Vec<Ends>) -> Result<SiteMa
     })
 }
 
-fn solved_sites(alloc: Global, card: &Card, world: &World<'_>, free: &[SiteId], gates: &[(u32, u32)]) -> Result<SiteProposal, Unsolved>
+fn solved_sites(
+    alloc: Global,
+    card: &Card,
+    world: &World<'_>,
+    free: &[SiteId],
+    gates: &[(u32, u32)],
+) -> Result<SiteProposal, Unsolved>
     requires card { world.now.architecture ≡ card.now }
     requires sites { All (λ s. s.0 < site_count card.now) free.now }
     requires stored { All (AreStored world.now) gates.now }
