@@ -14,7 +14,6 @@ mod offsets;
 mod placed;
 mod proposal;
 mod returning;
-mod site_proposal;
 mod sites;
 mod solver;
 mod uses;
