@@ -5,3 +5,4 @@ pub mod UseFacts
 pub mod HomeFacts
 mod OfferFacts
 mod ReturnFacts
+mod JudgeFacts

@@ -45,7 +45,7 @@ has_contained : (n : ℕ) (ns : List ℕ) → Contains ns n → has n ns ≡ tru
 unfolding has
 has_contained n ns c = list_any-from_Any (λ m. m == n) ns (c.0, n, c.1, c.2, eq-eqb n n refl)
 
-cases_contains : (n : ℕ) (ns : List ℕ) → Contains ns n ⊎ (Contains ns n → ⊥)
+pub cases_contains : (n : ℕ) (ns : List ℕ) → Contains ns n ⊎ (Contains ns n → ⊥)
 cases_contains n ns =
     elim (cases_Bool (has n ns)) as (λ _. Contains ns n ⊎ (Contains ns n → ⊥)) [
       | inl test ↦ inl (contained n ns test)
@@ -203,7 +203,7 @@ of_offered os ps place rising len c =
     (c.0, slice_get-get_or os c.0 0 c.1 ∙ ap (λ (t : ℕ). Some t) at, ap (price_of os ps) (sym at) ∙ price_of-offered os ps c.0 rising len c.1)
 
 -- the price at a place of the list of all
-price_in_all : (os : List ℕ) (ps : List ℤ) (es : List ℕ) (k place : ℕ) → slice_get es k ≡ Some place → price_at (map (price_of os ps) es) k ≡ price_of os ps place
+pub price_in_all : (os : List ℕ) (ps : List ℤ) (es : List ℕ) (k place : ℕ) → slice_get es k ≡ Some place → price_at (map (price_of os ps) es) k ≡ price_of os ps place
 price_in_all os ps es k place is =
     get_or-map (price_of os ps) es k 0 (pos 0) (slice_get_within es k place is) ∙ ap (price_of os ps) (get_or_from_slice_get es k place 0 is)
 

@@ -6,3 +6,4 @@ pub mod Sites
 pub mod Tables
 pub mod Ranks
 pub mod Uses
+pub mod Judged

@@ -7,15 +7,18 @@
 
 mod ends;
 mod homing;
+mod judge;
 pub mod laws;
 mod offer;
 mod offsets;
 mod placed;
+mod proposal;
 mod returning;
 mod sites;
+mod solver;
 mod uses;
 
 pub use homing::homes;
 pub use placed::Placed;
-pub use returning::returns;
+pub use returning::{return_targets, returns};
 pub use sites::gate_sites;

@@ -1,6 +1,6 @@
 //! How far traps are apart, and the storage traps by their nearness to site 0.
 
-ghost use Rattle.std.specs.Prelude.{◌≡◌, ◌<◌, ◌≤◌, All, IfOk, map, vec_len};
+ghost use Rattle.std.specs.Prelude.{◌≡◌, ◌+◌, ◌<◌, ◌≤◌, All, IfOk, map, vec_len};
 ghost use Rattle.std.specs.List.{range_with_len};
 ghost use Rattle.zac_arch.specs.Architecture.{storage_count, trap_count};
 ghost use Rattle.zac_arch.specs.Distances.{difference};
@@ -21,6 +21,18 @@ pub(crate) fn point_of(card: &Card, t: TrapId) -> Point
 {
     laws_of_traps(card);
     card.point(t)
+}
+
+/// How far two points of the field are apart in x, and how far in y, added.
+pub(crate) fn apart(p: Point, q: Point) -> u32
+    requires first_x { p.x ≤ 1000000 }
+    requires first_y { p.y ≤ 1000000 }
+    requires second_x { q.x ≤ 1000000 }
+    requires second_y { q.y ≤ 1000000 }
+    ensures apart { result ≡ difference p.x q.x + difference p.y q.y }
+    ensures most { result ≤ 2000000 }
+{
+    p.x.abs_diff(q.x) + p.y.abs_diff(q.y)
 }
 
 /// The distance of two traps: how far they are apart in x, and how far in y, added.

@@ -5,4 +5,5 @@ mod BlockFacts
 pub mod WalkFacts
 pub mod ListFacts
 mod NearestFacts
+mod FreeFacts
 pub mod RankFacts

@@ -12,7 +12,8 @@ use Rattle.zac_arch.specs.declared.place.Point.{Point}
 use Rattle.zac_world.specs.Around.{AreAround, IsBefore, IsBetween}
 use Rattle.zac_world.specs.Blocks.{AreBlocks, block_distance, size_of}
 use Rattle.zac_world.specs.Places.{Places}
-use Rattle.zac_world.specs.Walks.{candidates_in, distance_from}
+use Rattle.zac_world.specs.Nearest.{distance_from}
+use Rattle.zac_world.specs.Walks.{candidates_in}
 use Rattle.zac_world.specs.declared.block.Block.{Block}
 use Rattle.zac_world.specs.declared.walk.Candidate.{Candidate}
 use Rattle.std.proofs.lemmas.List.{get_or_default}
@@ -48,7 +49,7 @@ enough_around p centre count found reach are enough =
     record { reach = reach; are = are; enough = inl enough }
 
 -- what holds of each trap of each block holds of each storage trap
-in_blocks : (P : ℕ → Type 0) (blocks : List Block) (start : ℕ) → ((k : ℕ) (b : Block) → k < length blocks → (get_or blocks k b).first ≡ start + sum_by size_of (take k blocks)) →
+pub in_blocks : (P : ℕ → Type 0) (blocks : List Block) (start : ℕ) → ((k : ℕ) (b : Block) → k < length blocks → (get_or blocks k b).first ≡ start + sum_by size_of (take k blocks)) →
     ((k : ℕ) (b : Block) → k < length blocks → (i : ℕ) → i < size_of (get_or blocks k b) → P ((get_or blocks k b).first + i)) → (t : ℕ) → start ≤ t → t < start + sum_by size_of blocks → P t
 in_blocks P [] start in_turn each t from lt = absurd (omega arith)
 in_blocks P (b ∷ blocks) start in_turn each t from lt =

@@ -14,7 +14,8 @@ use Rattle.zac_arch.specs.Distances.{difference}
 use Rattle.zac_arch.specs.declared.place.Point.{Point}
 use Rattle.zac_world.specs.Blocks.{AreBlocks, IsBlock, size_of}
 use Rattle.zac_world.specs.Places.{Places, is_empty}
-use Rattle.zac_world.specs.Walks.{candidate, candidates_in, distance_from, is_within}
+use Rattle.zac_world.specs.Nearest.{distance_from}
+use Rattle.zac_world.specs.Walks.{candidate, candidates_in, is_within}
 use Rattle.zac_world.specs.declared.block.Block.{Block}
 use Rattle.zac_world.specs.declared.walk.Candidate.{Candidate}
 use Rattle.zac_world.specs.declared.walk.Disc.{Disc}

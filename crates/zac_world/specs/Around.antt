@@ -4,7 +4,8 @@ use Rattle.zac_arch.specs.Architecture.{storage_count}
 use Rattle.zac_arch.specs.declared.place.Point.{Point}
 use Rattle.zac_world.specs.Blocks.{block_distance}
 use Rattle.zac_world.specs.Places.{Places}
-use Rattle.zac_world.specs.Walks.{candidates_in, distance_from}
+use Rattle.zac_world.specs.Nearest.{distance_from}
+use Rattle.zac_world.specs.Walks.{candidates_in}
 use Rattle.zac_world.specs.declared.block.Block.{Block}
 use Rattle.zac_world.specs.declared.walk.Candidate.{Candidate}
 

@@ -1,17 +1,12 @@
 -- The empty storage traps within reach of a point.
-use Rattle.std.specs.Prelude.{ℕ, ◌+◌, ◌≤◌, ◌&&◌, Bool, nat_le, List, map, filter}
+use Rattle.std.specs.Prelude.{ℕ, ◌≤◌, ◌&&◌, Bool, nat_le, List, map, filter}
 use Rattle.std.specs.List.{range_with_len}
 use Rattle.zac_arch.specs.Architecture.{Architecture}
-use Rattle.zac_arch.specs.Distances.{difference}
 use Rattle.zac_arch.specs.declared.place.Point.{Point}
-use Rattle.zac_world.specs.Nearest.{point_of}
+use Rattle.zac_world.specs.Nearest.{distance_from}
 use Rattle.zac_world.specs.Places.{Places, is_empty}
 use Rattle.zac_world.specs.declared.walk.Candidate.{Candidate}
 use Rattle.zac_world.specs.declared.walk.Disc.{Disc}
-
--- How far a trap is from a point: in x, and in y, added.
-abbrev pub distance_from : Architecture → Point → ℕ → ℕ
-distance_from a p t = difference p.x (point_of a t).x + difference p.y (point_of a t).y
 
 -- The trap is within reach of the centre.
 abbrev pub is_within : Architecture → Disc → ℕ → Bool

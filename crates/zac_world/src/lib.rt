@@ -2,9 +2,11 @@
 #![tactic(auto)]
 
 mod block;
+mod free;
 mod nearest;
 mod span;
 mod walk;
 mod world;
 
+pub use walk::Candidate;
 pub use world::World;

@@ -9,7 +9,7 @@ ghost use Rattle.zac_world.specs.Blocks.{AreBlocks, FitsField};
 ghost use Rattle.zac_world.specs.Nearest.{AreNearest};
 ghost use Rattle.zac_world.specs.Places.{empty_storage};
 
-use crate::block::{Block, blocks_of};
+use crate::block::Block;
 use crate::walk::{Candidate, Disc, empty_within};
 use crate::world::World;
 use std::alloc::{AllocError, Global};
@@ -108,8 +108,7 @@ impl<'a> World<'a> {
     {
         let _rules = card.figures();
         let centre = card.point(from);
-        let blocks = blocks_of(alloc, card)?;
-        let mut found = around(alloc, self, blocks.as_slice(), centre, count as usize)?;
+        let mut found = around(alloc, self, self.blocks.as_slice(), centre, count as usize)?;
         put_by_distance(&mut found);
         first_traps(alloc, found.as_slice(), count as usize)
     }

@@ -40,3 +40,13 @@ pub(crate) fn within_reach(first: u32, step: u32, count: u32, n: u32, reach: u32
     let begin = n.saturating_sub(reach).saturating_sub(first).div_ceil(step);
     (begin.min(end), end)
 }
+
+/// How many of these numbers are below `n`.
+pub(crate) fn count_below(first: u32, step: u32, count: u32, n: u32) -> u32
+    requires rises { 1 ≤ step }
+    ensures counted { result ≤ count }
+    ensures below { (i : ℕ) → i < result → first + i * step < n }
+    ensures others { (i : ℕ) → result ≤ i → i < count → n ≤ first + i * step }
+{
+    n.saturating_sub(first).div_ceil(step).min(count)
+}

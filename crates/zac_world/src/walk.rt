@@ -12,10 +12,10 @@ use std::alloc::Global;
 use zac_arch::{Point, TrapId};
 use zac_memory::Memory;
 
-/// An empty storage trap, and how far it is.
+/// An empty storage trap, and how far it is from a point.
 #[derive(Clone, Copy)]
-pub(crate) struct Candidate {
-    /// Its distance: `|dx| + |dy|`.
+pub struct Candidate {
+    /// Its distance: `|dx| + |dy|`, in tenths of a micrometre.
     pub distance: u32,
     /// The trap.
     pub trap: TrapId,

@@ -6,6 +6,7 @@ ghost use Rattle.zac_arch.specs.Architecture.{trap_count};
 ghost use Rattle.zac_pairing.specs.Pairing.{mate};
 ghost use Rattle.zac_world.specs.Places.{is_empty, empty_storage, traps_of};
 
+use crate::block::{Block, blocks_of};
 use std::alloc::Global;
 use std::marker::Model;
 use zac_arch::{Card, TrapId};
@@ -18,16 +19,19 @@ use zac_pairing::Pairing;
 pub struct World<'a> {
     card: &'a Card,
     pairing: Pairing,
+    /// The storage zones of the card.
+    pub(crate) blocks: Vec<Block>,
 }
 
 impl<'a> Model for World<'a> {
-    ghost use Rattle.zac_world.specs.Places.{Places, traps_of, ArePlaced};
+    ghost use Rattle.zac_world.specs.Places.{Places, traps_of};
+    ghost use Rattle.zac_world.specs.Worlds.{IsKept};
 
     ghost Value = { Places };
 
     ghost view = { λ w. record { architecture = w.card.now; traps = traps_of w.pairing.left.items } };
 
-    ghost invariant = { λ w. ArePlaced w.card.now w.pairing.left.items w.pairing.right.items };
+    ghost invariant = { λ w. IsKept w.card.now w.pairing.left.items w.pairing.right.items w.blocks.items };
 }
 
 impl<'a> World<'a> {
@@ -37,11 +41,16 @@ impl<'a> World<'a> {
         requires distinct { AllPairs (λ g h. g.0 ≢ h.0) homes.now }
         ensures { IfOk result (λ w. w ≡ record { architecture = card.now; traps = map (λ h. h.0) homes.now }) }
     {
+        let blocks = blocks_of(alloc, card)?;
         let mut pairing = Pairing::none(alloc, homes.len(), card.traps() as usize)?;
         for (q, home) in homes.iter().enumerate() {
             let _ = pairing.join(q as u32, home.0);
         }
-        Ok(World { card, pairing })
+        Ok(World {
+            card,
+            pairing,
+            blocks,
+        })
     }
 
     /// The trap in which a qubit rests.

@@ -3,7 +3,8 @@ use Rattle.std.proofs.lemmas.List.{append-nil, append_assoc}
 use Rattle.std.proofs.lemmas.Nat.{row_fits}
 use Rattle.zac_arch.specs.Distances.{difference}
 use Rattle.zac_world.specs.Places.{is_empty}
-use Rattle.zac_world.specs.Walks.{candidate, candidates_in, distance_from}
+use Rattle.zac_world.specs.Nearest.{distance_from}
+use Rattle.zac_world.specs.Walks.{candidate, candidates_in}
 use Rattle.zac_world.specs.declared.walk.Candidate.{Candidate}
 use Rattle.zac_world.proofs.PlacesFacts.{none_by_test, storage_in}
 use Rattle.zac_world.proofs.WalkFacts.{empty_by_atom, one_within, row_after, row_before, row_distance, row_inside, row_too_far}

@@ -15,6 +15,6 @@ returns c =
     let t = c.args.t.0 in
     let found = c.index.result.now in
     let traps = ap (λ (v : Places). trap_count v.architecture) c.self.view_is in
-    let read : found ≡ mate p.right.items t = get_or_read_under p.right.items t (length p.right.items) found None c.index.ensures (omega (arith, c.requires, traps, c.self.invariant.all_traps)) refl in
+    let read : found ≡ mate p.right.items t = get_or_read_under p.right.items t (length p.right.items) found None c.index.ensures (omega (arith, c.requires, traps, c.self.invariant.placed.all_traps)) refl in
     subst (λ (v : Places). MatchOption found (IsTrue (is_empty v.traps t)) (λ q. slice_get v.traps q ≡ Some t)) c.self.view_is
-    (atom_found own p.left.items p.right.items t found c.self.invariant p.pairing read)
+    (atom_found own p.left.items p.right.items t found c.self.invariant.placed p.pairing read)

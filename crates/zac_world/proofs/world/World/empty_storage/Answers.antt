@@ -10,7 +10,7 @@ use Rattle.zac_world.proofs.world.World.empty_storage.Goals.{then-is_none+in_ok-
 
 pub index-requires : goal.index-requires
 index-requires c =
-    omega (arith, c.loop-t-test.true, c.storage_traps-t-end.ensures, storage_in c.self.inside.card.now, c.self.invariant.all_traps)
+    omega (arith, c.loop-t-test.true, c.storage_traps-t-end.ensures, storage_in c.self.inside.card.now, c.self.invariant.placed.all_traps)
 
 pub loop-t-preserved : goal.loop-t-preserved
 loop-t-preserved c =
@@ -19,9 +19,9 @@ loop-t-preserved c =
     let t = c.loop-t.t in
     let found = c.index.result.now in
     let at : TrapId → ℕ = λ x. x.0 in
-    let within : t < length p.right.items = omega (arith, c.loop-t-test.true, c.storage_traps-t-end.ensures, storage_in own, c.self.invariant.all_traps) in
+    let within : t < length p.right.items = omega (arith, c.loop-t-test.true, c.storage_traps-t-end.ensures, storage_in own, c.self.invariant.placed.all_traps) in
     let read : found ≡ mate p.right.items t = get_or_read_under p.right.items t (length p.right.items) found None c.index.ensures within refl in
-    let test : is_empty c.args.self.now.traps t ≡ is_none found = subst (λ (v : Places). is_empty v.traps t ≡ is_none found) c.self.view_is (empty_is own p.left.items p.right.items t found c.self.invariant p.pairing read) in
+    let test : is_empty c.args.self.now.traps t ≡ is_none found = subst (λ (v : Places). is_empty v.traps t ≡ is_none found) c.self.view_is (empty_is own p.left.items p.right.items t found c.self.invariant.placed p.pairing read) in
     let more : (b : Bool) → is_none found ≡ b → filter (is_empty c.args.self.now.traps) (range_with_len 0 (t + 1)) ≡ filter (is_empty c.args.self.now.traps) (range_with_len 0 t) ++ cond b (t ∷ []) [] =
     λ b is. filter_more (is_empty c.args.self.now.traps) t b (test ∙ is) in
     elim c.if-is_none.branch [

@@ -34,7 +34,10 @@ loop-q-preserved c =
 
 pub invariant_of-result : goal.invariant_of-result
 invariant_of-result c =
-    placed_all c.args.card.now c.args.homes.now c.loop-q.pairing.left.items c.loop-q.pairing.right.items c.loop-q.q c.loop-q.invariant.homed (omega arith) c.loop-q.invariant.right_len
+    record {
+      placed = placed_all c.args.card.now c.args.homes.now c.loop-q.pairing.left.items c.loop-q.pairing.right.items c.loop-q.q c.loop-q.invariant.homed (omega arith) c.loop-q.invariant.right_len;
+      blocks_are = c.in_ok-blocks.ensures;
+    }
 
 pub returns : goal.returns
 returns c =
