@@ -2,8 +2,8 @@
 
 use std::alloc::Global;
 use std::process::Abort;
-use zac_arch::{Card, TrapId, Zone, ZoneKind};
-use zac_place::returns;
+use zac_arch::{Card, Point, TrapId, Zone, ZoneKind};
+use zac_place::{return_targets, returns};
 use zac_world::World;
 
 /// Two rows of three storage traps.
@@ -79,4 +79,34 @@ fn of_equally_near_traps_the_smaller_numbers_are_weighed(rt: HostRuntime) {
         placed.targets.as_slice() == [1].as_slice() || placed.targets.as_slice() == [3].as_slice()
     );
     assert!(rt; placed.column_price.as_slice() == [0, 0, 0, 0, 0].as_slice());
+    let targets = match return_targets(rt.alloc(), &card, &world, &[0]) {
+        Ok(targets) => targets,
+        Err(_memory) => panic!(&rt; "no memory"),
+    };
+    assert!(rt; targets.as_slice() == [1].as_slice() || targets.as_slice() == [3].as_slice());
+}
+
+#[test]
+fn the_nearest_free_trap_is_neither_taken_nor_marked(rt: HostRuntime) {
+    let figures = tiny(&rt, rt.alloc()).figures();
+    let zones = vec![in rt.alloc(); STORAGE, ENTANGLING].expect(&rt, "memory");
+    let card = match Card::new(figures, zones) {
+        Ok(card) => card,
+        Err(_rule) => panic!(&rt; "no card"),
+    };
+    assert!(rt; card.traps() == 10);
+    let world = match World::new(rt.alloc(), &card, &[TrapId(6), TrapId(4)]) {
+        Ok(world) => world,
+        Err(_memory) => panic!(&rt; "no memory"),
+    };
+    // The empty traps 1, 3 and 5 are all 30 away.
+    let from = Point { x: 30, y: 30 };
+    match world.nearest_free(from, &[]) {
+        Some(free) => assert!(rt; free.trap == TrapId(1) && free.distance == 30),
+        None => panic!(&rt; "no trap"),
+    }
+    match world.nearest_free(from, &[false, true]) {
+        Some(free) => assert!(rt; free.trap == TrapId(3) && free.distance == 30),
+        None => panic!(&rt; "no trap"),
+    }
 }

@@ -1,11 +1,11 @@
 -- What the judged prices of a proposal tell.
-use Rattle.std.proofs.Common.{◌≡◌, ◌≢◌, ◌==◌, ℕ, zero, suc, ◌+◌, ◌<◌, ◌≤◌, ◌⊎◌, inl, inr, Bool, true, false, cond, not, IsTrue, List, [], ◌∷◌, ◌++◌, Option, Some, None, length, get_or, map, set, ℤ, pos, ◌+ℤ◌, ◌≤ℤ◌, neg_ℤ, refl, sym, ap, ◌∙◌, subst, arith}
+use Rattle.std.proofs.Common.{◌≡◌, ◌≢◌, ℕ, zero, suc, ◌+◌, ◌<◌, ◌≤◌, ◌⊎◌, inl, inr, Bool, true, false, cond, List, [], ◌∷◌, ◌++◌, Option, Some, None, length, get_or, map, set, ℤ, pos, ◌+ℤ◌, ◌≤ℤ◌, neg_ℤ, refl, sym, ap, ◌∙◌, subst, arith}
 use Rattle.std.proofs.lemmas.Int.{ints}
-use Rattle.std.specs.List.{All, AllPairs, Any, Contains, count_by, filter, range_with_len, slice_get}
+use Rattle.std.specs.List.{All, AllPairs, Any, Contains, filter, range_with_len}
 use Rattle.std.specs.Option.{MatchOption, is_none, is_some}
 use Rattle.std.specs.Prelude.{IfSome}
 use Rattle.std.proofs.lemmas.Bool.{cases_Bool, cases_eq, cases_lt, eq-eqb, ne_eqb}
-use Rattle.std.proofs.lemmas.List.{get_or-map, get_or-set_other, get_or-set_same, get_or_append_left, get_or_default, get_or_push, length-append, length-map, length-set}
+use Rattle.std.proofs.lemmas.List.{get_or-map, get_or-set_other, get_or-set_same, get_or_append_left, get_or_default, get_or_push, length-map, length-set}
 use Rattle.std.proofs.lemmas.List.FromFn.{get_or-range_with_len, length-range_with_len}
 use Rattle.std.proofs.lemmas.List.Kept.{AllPairs-filter}
 use Rattle.std.proofs.lemmas.List.Sums.{length-filter}
@@ -13,7 +13,7 @@ use Rattle.std.proofs.lemmas.Option.{get_or_from_slice_get, slice_get-get_or, sl
 use Rattle.zac_arch.specs.Architecture.{Architecture, storage_count}
 use Rattle.zac_arch.specs.declared.place.Point.{Point}
 use Rattle.zac_assign.specs.Assignment.{price_at}
-use Rattle.zac_world.specs.Nearest.{IsAmongNearest, IsFree, IsNearestFree, distance_from, is_nearer, nearer_count, point_of, trap_distance}
+use Rattle.zac_world.specs.Nearest.{IsAmongNearest, IsFree, IsNearestFree, distance_from, is_nearer, point_of, trap_distance}
 use Rattle.zac_world.specs.Places.{Places, empty_storage, is_empty}
 use Rattle.zac_world.specs.declared.walk.Candidate.{Candidate}
 use Rattle.zac_world.proofs.ListFacts.{contains_filtered, contains_from_filter}
@@ -23,7 +23,6 @@ use Rattle.zac_place.specs.Offers.{price_of}
 use Rattle.zac_place.specs.Placing.{IsPlacing, ProvesPlacing}
 use Rattle.zac_place.specs.Returns.{AreNear, return_cost, trap_in}
 use Rattle.zac_place.specs.declared.judge.Row.{Row}
-use Rattle.zac_place.proofs.PlacingFacts.{one_place}
 use Rattle.zac_place.proofs.ReturnFacts.{cases_contains, empty_apart, no_more, price_of-others, price_in_all}
 
 -- ---- the marks

@@ -1,8 +1,7 @@
 -- The nearest traps are enough: a least placing in them is least in all empty storage traps.
-use Rattle.std.proofs.Common.{◌≡◌, ◌≢◌, ◌==◌, ℕ, zero, suc, ◌+◌, ◌-◌, ◌<◌, ◌≤◌, ◌⊎◌, inl, inr, Bool, true, false, cond, not, IsTrue, List, [], ◌∷◌, ◌++◌, Some, length, get_or, map, min, ℤ, pos, ◌+ℤ◌, ◌≤ℤ◌, refl, sym, ap, ◌∙◌, subst, arith, nat_eq}
+use Rattle.std.proofs.Common.{◌≡◌, ◌≢◌, ◌==◌, ℕ, zero, suc, ◌+◌, ◌<◌, ◌≤◌, ◌⊎◌, inl, inr, Bool, true, false, cond, List, [], ◌∷◌, ◌++◌, Some, length, get_or, map, ℤ, pos, ◌+ℤ◌, ◌≤ℤ◌, refl, sym, ap, ◌∙◌, subst, arith, nat_eq}
 use Rattle.std.proofs.lemmas.Int.{ints}
-use Rattle.std.specs.List.{All, AllPairs, Any, Contains, count_by, filter, list_any, range_with_len, slice_get}
-use Rattle.std.specs.Prelude.{slice_index}
+use Rattle.std.specs.List.{All, AllPairs, Any, Contains, filter, list_any, range_with_len, slice_get}
 use Rattle.std.proofs.lemmas.Bool.{cases_Bool, cases_lt, eq-eqb, eqb-true, ne_eqb}
 use Rattle.std.proofs.lemmas.Cmp.{nat_eq_equiv}
 use Rattle.std.proofs.lemmas.List.{get_or-map, get_or_default, length-map, map-append}
@@ -23,7 +22,7 @@ use Rattle.zac_world.specs.Nearest.{AreNearest, IsAmongNearest, is_nearer, neare
 use Rattle.zac_world.proofs.ListFacts.{contains_from_filter, range_rises}
 use Rattle.zac_world.proofs.PlacesFacts.{filter_more}
 use Rattle.zac_world.proofs.RankFacts.{below_storage, nearer_cases, nearer_test, no_farther, not_nearer}
-use Rattle.zac_place.specs.Offers.{AreOffered, HasNearest, price_of}
+use Rattle.zac_place.specs.Offers.{AreOffered, price_of}
 use Rattle.zac_place.specs.Placing.{IsPlacing, ProvesPlacing}
 use Rattle.zac_place.specs.Returns.{AreNear, return_cost, trap_in}
 use Rattle.zac_place.specs.Tables.{Tabulates}

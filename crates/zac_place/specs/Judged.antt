@@ -4,7 +4,7 @@ use Rattle.std.specs.List.{All, AllPairs, Contains, slice_index_or}
 use Rattle.zac_arch.specs.Distances.{difference}
 use Rattle.zac_arch.specs.declared.place.Point.{Point}
 use Rattle.zac_assign.specs.Assignment.{price_at}
-use Rattle.zac_world.specs.Nearest.{IsFree, IsNearestFree, point_of, trap_distance}
+use Rattle.zac_world.specs.Nearest.{IsFree, IsNearestFree, point_of}
 use Rattle.zac_world.specs.Places.{Places, empty_storage}
 use Rattle.zac_place.specs.Offers.{price_of}
 use Rattle.zac_place.specs.Placing.{IsPlacing, ProvesPlacing}

@@ -1,6 +1,6 @@
 -- Inside: which storage traps are offered to leaving atoms, and the prices of all of them.
-use Rattle.std.specs.Prelude.{ℕ, ◌≡◌, ◌==◌, ◌+◌, ◌<◌, List, [], ◌∷◌, length, min, ℤ, pos, if◌then◌else◌}
-use Rattle.std.specs.List.{All, AllPairs, Contains}
+use Rattle.std.specs.Prelude.{ℕ, ◌≡◌, ◌==◌, ◌+◌, List, [], ◌∷◌, length, min, ℤ, pos, if◌then◌else◌}
+use Rattle.std.specs.List.{All, Contains}
 use Rattle.zac_place.specs.Returns.{AreNear, trap_in}
 use Rattle.zac_world.specs.Places.{Places, empty_storage}
 use Rattle.zac_world.specs.Nearest.{AreNearest}

@@ -1,7 +1,7 @@
-use Rattle.std.proofs.Common.{◌≡◌, ◌<◌, ◌≤◌, ℕ, Bool, List, length, get_or, sym, ap, ◌∙◌, subst, arith}
-use Rattle.zac_arch.specs.Architecture.{Architecture, storage_count}
+use Rattle.std.proofs.Common.{◌<◌, ℕ, Bool, List, length, get_or, ap, subst, arith}
+use Rattle.zac_arch.specs.Architecture.{storage_count}
 use Rattle.zac_world.proofs.RankFacts.{below_storage}
-use Rattle.zac_place.specs.Judged.{AreMarked, AreRows, IsJudged, IsProved}
+use Rattle.zac_place.specs.Judged.{AreMarked, AreRows, IsJudged}
 use Rattle.zac_place.specs.declared.judge.Row.{Row}
 use Rattle.zac_place.proofs.JudgeFacts.{proved}
 use Rattle.zac_place.proofs.judge.is_proved.Goals as goal

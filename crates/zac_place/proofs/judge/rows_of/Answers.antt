@@ -1,5 +1,5 @@
-use Rattle.std.proofs.Common.{◌≡◌, ◌+◌, ◌<◌, ℤ, pos, length, get_or, sym, ap, ◌∙◌, refl, arith, rules}
-use Rattle.std.proofs.lemmas.Int.{ints, to_z-of_z}
+use Rattle.std.proofs.Common.{◌≡◌, pos, length, get_or, ap, ◌∙◌, refl, arith, rules}
+use Rattle.std.proofs.lemmas.Int.{ints}
 use Rattle.std.proofs.lemmas.List.{get_or_read, length-append}
 use Rattle.zac_assign.specs.Assignment.{price_at}
 use Rattle.zac_place.proofs.JudgeFacts.{rows_more}

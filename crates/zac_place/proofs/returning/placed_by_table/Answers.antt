@@ -1,12 +1,8 @@
-use Rattle.std.proofs.Common.{◌≡◌, ◌≢◌, ◌<◌, ◌≤◌, ℕ, ℤ, List, length, map, sym, ap, ◌∙◌, subst, arith}
-use Rattle.std.specs.List.{All, AllPairs, Contains}
+use Rattle.std.proofs.Common.{◌<◌, ℕ, List, length, sym, ap, subst, arith}
+use Rattle.std.specs.List.{All}
 use Rattle.zac_arch.specs.Architecture.{Architecture, storage_count}
-use Rattle.zac_world.specs.Places.{empty_storage}
-use Rattle.zac_place.specs.Offers.{AreOffered, price_of}
-use Rattle.zac_place.specs.Placing.{IsPlacing, ProvesPlacing}
 use Rattle.zac_place.specs.Returns.{return_cost}
-use Rattle.zac_place.specs.Tables.{Tabulates}
-use Rattle.zac_place.proofs.ReturnFacts.{empty_apart, enough_offered, few_empty, few_rising, near_targets, offered_below, offered_empty, placing_in_all, placing_of, prices_of_all, proof_of, rising_apart}
+use Rattle.zac_place.proofs.ReturnFacts.{enough_offered, few_empty, few_rising, offered_below, placing_of, proof_of}
 use Rattle.zac_place.proofs.returning.placed_by_table.Goals as goal
 
 pub return_costs-requires-clause-few : goal.return_costs-requires-clause-few

@@ -1,4 +1,4 @@
-use Rattle.std.proofs.Common.{ℕ, List, length, sym, subst}
+use Rattle.std.proofs.Common.{length, sym, subst}
 use Rattle.zac_world.specs.Places.{empty_storage}
 use Rattle.zac_place.specs.Placing.{IsLeastPlacing}
 use Rattle.zac_place.specs.Returns.{AreNear, return_cost}

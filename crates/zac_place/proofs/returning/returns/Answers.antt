@@ -1,12 +1,10 @@
-use Rattle.std.proofs.Common.{◌≡◌, ◌≢◌, ◌<◌, ◌≤◌, ℕ, ℤ, List, length, map, sym, ap, ◌∙◌, subst, arith}
-use Rattle.std.specs.List.{All, AllPairs, Contains}
-use Rattle.zac_arch.specs.Architecture.{Architecture, storage_count}
+use Rattle.std.proofs.Common.{◌≡◌, ℕ, ℤ, List, length, map, sym, ap, ◌∙◌, subst}
+use Rattle.std.specs.List.{All, Contains}
 use Rattle.zac_world.specs.Places.{empty_storage}
-use Rattle.zac_place.specs.Offers.{AreOffered, price_of}
-use Rattle.zac_place.specs.Placing.{IsPlacing, ProvesPlacing}
+use Rattle.zac_place.specs.Offers.{price_of}
+use Rattle.zac_place.specs.Placing.{ProvesPlacing}
 use Rattle.zac_place.specs.Returns.{return_cost}
-use Rattle.zac_place.specs.Tables.{Tabulates}
-use Rattle.zac_place.proofs.ReturnFacts.{empty_apart, enough_offered, few_empty, few_rising, near_targets, offered_below, offered_empty, placing_in_all, placing_of, prices_of_all, proof_of, rising_apart}
+use Rattle.zac_place.proofs.ReturnFacts.{empty_apart, near_targets, offered_empty, placing_in_all, prices_of_all}
 use Rattle.zac_place.proofs.returning.returns.Goals as goal
 
 pub spread-requires-clause-empty : goal.spread-requires-clause-empty

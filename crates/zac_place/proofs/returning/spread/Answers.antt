@@ -1,9 +1,8 @@
-use Rattle.std.proofs.Common.{◌≡◌, ◌≢◌, ◌+◌, ◌<◌, ◌≤◌, ◌++◌, ◌∷◌, [], ℕ, ℤ, pos, Bool, true, false, cond, List, is_none, length, get_or, map, filter, sym, ap, ◌∙◌, subst, arith}
+use Rattle.std.proofs.Common.{◌≡◌, ◌≢◌, ◌+◌, ◌<◌, ◌++◌, ◌∷◌, [], ℤ, pos, Bool, true, false, cond, List, is_none, length, get_or, map, filter, sym, ap, ◌∙◌, arith}
 use Rattle.std.specs.List.{range_with_len}
 use Rattle.std.proofs.lemmas.Int.{to_z-of_z}
 use Rattle.std.proofs.lemmas.List.{append-nil}
 use Rattle.zac_arch.specs.Architecture.{storage_count}
-use Rattle.zac_arch.proofs.Geometry.{trap_count_is}
 use Rattle.zac_assign.specs.Assignment.{price_at}
 use Rattle.zac_world.specs.Places.{is_empty}
 use Rattle.zac_world.proofs.PlacesFacts.{none_by_test, storage_in}
