@@ -16,6 +16,4 @@ mod io;
 #[cfg(test)]
 mod machines;
 #[cfg(test)]
-mod reading;
-#[cfg(test)]
 mod text;

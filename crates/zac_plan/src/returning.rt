@@ -13,7 +13,7 @@ use std::alloc::Global;
 use std::collections::BTreeSet;
 use zac_arch::Card;
 use zac_gates::{List, Memory, Op};
-use zac_place::returns;
+use zac_place::return_targets;
 use zac_world::World;
 use zair_form::PairOf;
 
@@ -121,8 +121,8 @@ impl<'a> Agenda<'a> {
         ensures ok { OnOk result (GrowsByReturns card.now ops.now before.now kept.now self.old self.new world.old world.new) }
     {
         let leaving = leaving(alloc, ops, before, kept)?;
-        let placed = returns(alloc, card, world, &leaving)?;
-        let shifts = shifts_to(alloc, world, &leaving, placed.targets.as_slice())?;
+        let targets = return_targets(alloc, card, world, &leaving)?;
+        let shifts = shifts_to(alloc, world, &leaving, targets.as_slice())?;
         put_all(world, &shifts);
         self.add_jobs(alloc, card, List::of(shifts))
     }
