@@ -42,13 +42,7 @@ fn controlled_not(rt: &impl Abort, alloc: Global) -> Result<Circuit, Fail> {
 }
 
 /// A gate on qubit 1.
-fn gate(
-    rt: &impl Abort,
-    alloc: Global,
-    op: u32,
-    begin: u64,
-    end: u64,
-) -> Result<Instr, Fail> {
+fn gate(rt: &impl Abort, alloc: Global, op: u32, begin: u64, end: u64) -> Result<Instr, Fail> {
     let mut ones = Vec::new(alloc);
     ones.push(OneGate {
         op,
@@ -141,10 +135,12 @@ fn judged(answer: Result<u64, ReplayFault>) -> (u8, u64, u64) {
         Err(ReplayFault::Qubits { text, source }) => (1, text, u64::from(source)),
         Err(ReplayFault::Home { q }) => (2, u64::from(q), 0),
         Err(ReplayFault::Length { instr }) => (3, instr, 0),
-        Err(ReplayFault::Machine {
-            step,
-            fault: MachineFault::DropWrong { q },
-        }) => (4, step, u64::from(q)),
+        Err(
+            ReplayFault::Machine {
+                step,
+                fault: MachineFault::DropWrong { q },
+            },
+        ) => (4, step, u64::from(q)),
         Err(ReplayFault::Missing { op }) => (5, u64::from(op), 0),
         Err(_) => (6, 0, 0),
     }
