@@ -1,7 +1,13 @@
 //! A test of zac_sched: on the card `square` a job waits until another has left its grid.
 
+ghost use Rattle.std.specs.Prelude.{◌≡◌, ◌<◌, ◌≤◌, IfSome, length};
+ghost use Rattle.std.specs.List.{All};
+ghost use Rattle.zac_aod.specs.Lowering.{job_steps};
+ghost use Rattle.zac_group.specs.Groups.{IsPhase};
+
+use std::alloc::Global;
 use std::test::Fail;
-use zac_aod::lower;
+use zac_aod::{Job, lower};
 use zac_arch::{Card, TrapId};
 use zac_archfile::read_card;
 use zac_gates::List;
@@ -39,6 +45,37 @@ const LAST: [Shift; 1] = [Shift {
     to: TrapId(7),
 }];
 
+/// The job of the first group of these moves, if it is a small one of the first four qubits.
+fn job_of<'a>(alloc: Global, card: &'a Card, shifts: List<Shift>) -> Option<Job<'a>>
+    requires { IsPhase card.now shifts }
+    ensures card { IfSome result (λ job. job.card ≡ card.now) }
+    ensures qubits { IfSome result (λ job. All (λ shift. shift.q < 4) job.shifts) }
+    ensures steps { IfSome result (λ job. length (job_steps job.card job.shifts 0) ≤ 100) }
+{
+    let groups = groups(alloc, card, shifts).ok()?;
+    let group = groups.as_slice().first()?;
+    let job = lower(alloc, card, group).ok()?;
+    let small = job.shifts().iter().all(|shift| shift.q < 4) && job.steps().len() <= 100;
+    if small { Some(job) } else { None }
+}
+
+/// The program of two jobs of the first four qubits.
+fn program_of<'a>(alloc: Global, card: &Card, first: Job<'a>, last: Job<'a>) -> Result<Program, Fail>
+    requires first_card { first.card ≡ card.now }
+    requires first_qubits { All (λ shift. shift.q < 4) first.shifts }
+    requires first_steps { length (job_steps first.card first.shifts 0) ≤ 100 }
+    requires last_card { last.card ≡ card.now }
+    requires last_qubits { All (λ shift. shift.q < 4) last.shifts }
+    requires last_steps { length (job_steps last.card last.shifts 0) ≤ 100 }
+{
+    let homes = Vec::from_slice(alloc, &[TrapId(0), TrapId(1), TrapId(2), TrapId(3)])?;
+    let mut todo = Vec::new(alloc);
+    todo.push(Todo::Job { job: first })?;
+    todo.push(Todo::Job { job: last })?;
+    let program = schedule(alloc, card, List::of(homes), List::of(todo));
+    Ok(program.ok().ok_or("memory")?)
+}
+
 /// The AOD, the begin and the end of the job at this place of a program.
 fn times_of(program: &Program, place: usize) -> Option<(u8, u64, u64)> {
     let instr = program.instrs().get(place)?;
@@ -55,27 +92,10 @@ fn a_job_waits_for_the_grid_of_another(rt: HostRuntime) -> Result<(), Fail> {
     assert!(rt; card.storage_traps() == 4);
     assert!(rt; card.traps() == 8);
     let shifts = Vec::from_slice(alloc, &FIRST)?;
-    let first = groups(alloc, &card, List::of(shifts)).ok().ok_or("memory")?;
+    let first = job_of(alloc, &card, List::of(shifts)).ok_or("no job")?;
     let shifts = Vec::from_slice(alloc, &LAST)?;
-    let last = groups(alloc, &card, List::of(shifts)).ok().ok_or("memory")?;
-    assert!(rt; first.as_slice().len() == 1 && last.as_slice().len() == 1);
-    let first = lower(alloc, &card, &first.as_slice()[0])
-        .ok()
-        .ok_or("memory")?;
-    assert!(rt; first.shifts().iter().all(|shift| shift.q < 4));
-    assert!(rt; first.steps().len() <= 100);
-    let last = lower(alloc, &card, &last.as_slice()[0])
-        .ok()
-        .ok_or("memory")?;
-    assert!(rt; last.shifts().iter().all(|shift| shift.q < 4));
-    assert!(rt; last.steps().len() <= 100);
-    let mut todo = Vec::new(alloc);
-    todo.push(Todo::Job { job: first })?;
-    todo.push(Todo::Job { job: last })?;
-    let homes = Vec::from_slice(alloc, &[TrapId(0), TrapId(1), TrapId(2), TrapId(3)])?;
-    let program = schedule(alloc, &card, List::of(homes), List::of(todo))
-        .ok()
-        .ok_or("memory")?;
+    let last = job_of(alloc, &card, List::of(shifts)).ok_or("no job")?;
+    let program = program_of(alloc, &card, first, last)?;
     assert!(rt; times_of(&program, 1) == Some((0, 0, 189_332)));
     assert!(rt; times_of(&program, 2) == Some((1, 189_332, 304_666)));
     Ok(())
