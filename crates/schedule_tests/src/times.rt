@@ -60,7 +60,12 @@ fn job_of<'a>(alloc: Global, card: &'a Card, shifts: List<Shift>) -> Option<Job<
 }
 
 /// The program of two jobs of the first four qubits.
-fn program_of<'a>(alloc: Global, card: &Card, first: Job<'a>, last: Job<'a>) -> Result<Program, Fail>
+fn program_of<'a>(
+    alloc: Global,
+    card: &Card,
+    first: Job<'a>,
+    last: Job<'a>,
+) -> Result<Program, Fail>
     requires first_card { first.card ≡ card.now }
     requires first_qubits { All (λ shift. shift.q < 4) first.shifts }
     requires first_steps { length (job_steps first.card first.shifts 0) ≤ 100 }
