@@ -7,3 +7,4 @@ pub mod ListFacts
 mod NearestFacts
 mod FreeFacts
 pub mod RankFacts
+mod ChunkFacts

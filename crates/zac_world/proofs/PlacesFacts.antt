@@ -1,5 +1,5 @@
 -- The traps of the qubits, and which are empty.
-use Rattle.std.proofs.Common.{◌≡◌, ◌≢◌, ◌==◌, ℕ, zero, suc, ◌+◌, ◌<◌, ◌≤◌, Bool, true, false, cond, not, IsTrue, IsSome, is_none, is_some, List, [], ◌∷◌, ◌++◌, length, map, filter, get_or, set, Option, Some, None, refl, sym, ap, ◌∙◌, subst, ⊎_elim, rules, arith}
+use Rattle.std.proofs.Common.{◌≡◌, ◌≢◌, ◌==◌, inl, inr, ℕ, zero, suc, ◌+◌, ◌<◌, ◌≤◌, Bool, true, false, cond, not, IsTrue, IsSome, is_none, is_some, List, [], ◌∷◌, ◌++◌, length, map, filter, get_or, set, Option, Some, None, refl, sym, ap, ◌∙◌, subst, ⊎_elim, rules, arith}
 use Rattle.std.specs.List.{slice_get, list_any, flat_map, range_with_len, AllPairs}
 use Rattle.std.specs.Option.{unwrap_or, option_map, MatchOption}
 use Rattle.std.proofs.lemmas.Bool.{cases_Bool, cases_lt, cases_eq, eqb-true, eq-eqb, not_from_true, not_from_false}
@@ -10,8 +10,8 @@ use Rattle.std.proofs.lemmas.Option.{slice_get-map, slice_get-get_or, slice_get_
 use Rattle.zac_arch.specs.Architecture.{Architecture, trap_count, storage_count, zone_traps, is_storage}
 use Rattle.zac_arch.specs.declared.card.Zone.{Zone}
 use Rattle.zac_arch.specs.declared.place.TrapId.{TrapId}
-use Rattle.zac_pairing.specs.Pairing.{mate, IsPairing}
-use Rattle.zac_pairing.proofs.PairingFacts.{mate_in, mate-set_same, mate-set_other}
+use Rattle.zac_pairing.specs.Pairing.{mate, IsPairing, freed}
+use Rattle.zac_pairing.proofs.PairingFacts.{length-freed, mate_in, mate-set_same, mate-set_other}
 use Rattle.zac_world.specs.Places.{is_empty, traps_of, ArePlaced}
 
 -- the trap of a qubit, and its partner
@@ -84,6 +84,17 @@ atom_found a left right t (Some q) placed pairing is = trap_from_mate left q t (
 -- the traps once a qubit is put into another one
 pub traps_put : (left : List (Option ℕ)) (q t : ℕ) → traps_of (set left q (Some t)) ≡ set (traps_of left) q t
 traps_put left q t = let f : Option ℕ → ℕ = λ o. unwrap_or o 0 in map-set f left q (Some t)
+
+-- each qubit still has a trap
+pub placed_after : (a : Architecture) (left right : List (Option ℕ)) (q t : ℕ) → ArePlaced a left right → ArePlaced a (set left q (Some t)) (set (freed right (mate left q)) t (Some q))
+placed_after a left right q t old =
+    record {
+      placed = λ u lt. elim (cases_eq u q) as (λ _. IsSome (mate (set left q (Some t)) u)) [
+        | inl same ↦ subst IsSome (sym (ap (mate (set left q (Some t))) same ∙ mate-set_same left q (Some t) (omega (arith, lt, same, length-set left q (Some t))))) (search rules)
+        | inr apart ↦ subst IsSome (sym (mate-set_other left q u (Some t) apart)) (old.placed u (omega (arith, lt, length-set left q (Some t))))
+      ];
+      all_traps = length-set (freed right (mate left q)) t (Some q) ∙ length-freed right (mate left q) ∙ old.all_traps;
+    }
 
 -- the storage traps are some of the traps
 storage_step : (z : Zone) (zones : List Zone) (b : Bool) → length (flat_map zone_traps (filter (λ (y : Zone). is_storage y.kind) zones)) ≤ length (flat_map zone_traps zones) →

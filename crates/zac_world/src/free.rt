@@ -1,6 +1,6 @@
 //! The nearest empty storage trap that isn't marked.
 
-ghost use Rattle.std.specs.Prelude.{◌≡◌, ℕ, ◌+◌, ◌*◌, ◌-◌, ◌<◌, ◌≤◌, ◌⊎◌, Some, None, true, false, IfSome, MatchOption};
+ghost use Rattle.std.specs.Prelude.{◌≡◌, ℕ, ◌+◌, ◌*◌, ◌-◌, ◌/◌, ◌<◌, ◌≤◌, ◌⊎◌, Some, None, true, false, IfSome, MatchOption};
 ghost use Rattle.std.specs.List.{slice_index_or};
 ghost use Rattle.zac_arch.specs.Architecture.{storage_count};
 ghost use Rattle.zac_world.specs.Blocks.{AreBlocks, FitsField, IsBlock, block_distance, size_of};
@@ -8,6 +8,7 @@ ghost use Rattle.zac_world.specs.Free.{AreNoBetter, HasLimits, IsFound, IsNoWors
 ghost use Rattle.zac_world.specs.Nearest.{IsFree, IsNearestFree};
 
 use crate::block::Block;
+use crate::chunk::CHUNK;
 use crate::span::{count_below, within_reach};
 use crate::walk::Candidate;
 use crate::world::World;
@@ -24,6 +25,28 @@ fn is_free(world: &World, marks: &[bool], t: u32) -> bool
     world.atom_at(TrapId(t)).is_none() && !marks.get(t as usize).copied().unwrap_or(false)
 }
 
+/// The first free one of so many traps of one chunk from a number on, counted from there.
+fn first_in_chunk(world: &World, marks: &[bool], first: u32, count: u32) -> Option<u32>
+    requires storage { first + count ≤ storage_count world.now.architecture }
+    requires few { first + count ≤ 65536 }
+    requires some { 0 < count }
+    requires one_chunk { first + count ≤ (first / 8 + 1) * 8 }
+    ensures { MatchOption result
+        ((i : ℕ) → i < count → is_free world.now marks.now (first + i) ≡ false)
+        (λ k. (k < count) × (is_free world.now marks.now (first + k) ≡ true)
+        × ((i : ℕ) → i < k → is_free world.now marks.now (first + i) ≡ false)) }
+{
+    if world.is_full(first / CHUNK) {
+        return None;
+    }
+    for i in 0..count {
+        if is_free(world, marks, first + i) {
+            return Some(i);
+        }
+    }
+    None
+}
+
 /// The first free one of so many traps from a number on, counted from there.
 fn first_free(world: &World, marks: &[bool], first: u32, count: u32) -> Option<u32>
     requires storage { first + count ≤ storage_count world.now.architecture }
@@ -33,7 +56,34 @@ fn first_free(world: &World, marks: &[bool], first: u32, count: u32) -> Option<u
         (λ k. (k < count) × (is_free world.now marks.now (first + k) ≡ true)
         × ((i : ℕ) → i < k → is_free world.now marks.now (first + i) ≡ false)) }
 {
-    for i in 0..count {
+    let end = first + count;
+    let mut begin = first;
+    while begin < end {
+        let next = end.min((begin / CHUNK + 1) * CHUNK);
+        if let Some(k) = first_in_chunk(world, marks, begin, next - begin) {
+            return Some(begin - first + k);
+        }
+        begin = next;
+    }
+    None
+}
+
+/// The last free one of so many traps of one chunk from a number on, counted from there.
+fn last_in_chunk(world: &World, marks: &[bool], first: u32, count: u32) -> Option<u32>
+    requires storage { first + count ≤ storage_count world.now.architecture }
+    requires few { first + count ≤ 65536 }
+    requires some { 0 < count }
+    requires one_chunk { first + count ≤ (first / 8 + 1) * 8 }
+    ensures { MatchOption result
+        ((i : ℕ) → i < count → is_free world.now marks.now (first + i) ≡ false)
+        (λ k. (k < count) × (is_free world.now marks.now (first + k) ≡ true)
+        × ((i : ℕ) → k < i → i < count → is_free world.now marks.now (first + i) ≡ false)) }
+{
+    if world.is_full(first / CHUNK) {
+        return None;
+    }
+    for back in 0..count {
+        let i = count - 1 - back;
         if is_free(world, marks, first + i) {
             return Some(i);
         }
@@ -50,11 +100,13 @@ fn last_free(world: &World, marks: &[bool], first: u32, count: u32) -> Option<u3
         (λ k. (k < count) × (is_free world.now marks.now (first + k) ≡ true)
         × ((i : ℕ) → k < i → i < count → is_free world.now marks.now (first + i) ≡ false)) }
 {
-    for back in 0..count {
-        let i = count - 1 - back;
-        if is_free(world, marks, first + i) {
-            return Some(i);
+    let mut end = first + count;
+    while first < end {
+        let begin = first.max((end - 1) / CHUNK * CHUNK);
+        if let Some(k) = last_in_chunk(world, marks, begin, end - begin) {
+            return Some(begin - first + k);
         }
+        end = begin;
     }
     None
 }
@@ -274,7 +326,8 @@ impl<'a> World<'a> {
     /// `|dx| + |dy|` and then number; none exactly where there is none. Marks stand by trap number; a trap past their end
     /// isn't marked. It takes no memory.
     ///
-    /// The work is in the rows that are no farther than the answer, in each in the traps up to the first free one.
+    /// The work is in the rows that are no farther than the answer, in each in the chunks up to the first free trap: one
+    /// look at a chunk that has no empty trap, and one at each trap of another one.
     pub fn nearest_free(&self, from: Point, marks: &[bool]) -> Option<Candidate>
         requires x_most { from.x ≤ 1000000 }
         requires y_most { from.y ≤ 1000000 }

@@ -2,6 +2,7 @@
 #![tactic(auto)]
 
 mod block;
+mod chunk;
 mod free;
 mod nearest;
 mod span;

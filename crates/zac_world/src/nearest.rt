@@ -93,7 +93,8 @@ impl<'a> World<'a> {
     /// The `count` empty storage traps that are nearest to a trap of the card, by rising distance `|dx| + |dy|` and
     /// then number; all of them where there are fewer. The only error is that memory ran out.
     ///
-    /// The work is in the traps that are no farther than the answer, and not in those of the card.
+    /// The reach of the search begins at the nearest storage trap, and what it has beyond that is doubled until enough empty
+    /// traps are found. The work is in the traps within it, and not in those of the card.
     pub fn nearest(
         &self,
         alloc: Global,

@@ -1,12 +1,13 @@
 //! Which trap each qubit rests in, looked up from both sides.
 
-ghost use Rattle.std.specs.Prelude.{◌≡◌, ◌≢◌, ℕ, ◌<◌, Some, None, IsTrue, IfOk, MatchOption, length, map, slice_set, slice_index, slice_index_or, vec_len};
+ghost use Rattle.std.specs.Prelude.{◌≡◌, ◌≢◌, ℕ, ◌+◌, ◌*◌, ◌<◌, ◌≤◌, Some, None, true, false, IsTrue, IfOk, MatchOption, length, map, slice_set, slice_index, slice_index_or, vec_len};
 ghost use Rattle.std.specs.List.{slice_get, All, AllPairs};
 ghost use Rattle.zac_arch.specs.Architecture.{trap_count};
 ghost use Rattle.zac_pairing.specs.Pairing.{mate};
 ghost use Rattle.zac_world.specs.Places.{is_empty, empty_storage, traps_of};
 
 use crate::block::{Block, blocks_of};
+use crate::chunk::{CHUNK, clear_chunk, full_chunks, is_chunk_full};
 use std::alloc::Global;
 use std::marker::Model;
 use zac_arch::{Card, TrapId};
@@ -21,6 +22,8 @@ pub struct World<'a> {
     pairing: Pairing,
     /// The storage zones of the card.
     pub(crate) blocks: Vec<Block>,
+    /// Which chunks of traps have no empty trap.
+    full: Vec<bool>,
 }
 
 impl<'a> Model for World<'a> {
@@ -31,7 +34,7 @@ impl<'a> Model for World<'a> {
 
     ghost view = { λ w. record { architecture = w.card.now; traps = traps_of w.pairing.left.items } };
 
-    ghost invariant = { λ w. IsKept w.card.now w.pairing.left.items w.pairing.right.items w.blocks.items };
+    ghost invariant = { λ w. IsKept w.card.now w.pairing.left.items w.pairing.right.items w.blocks.items w.full.items };
 }
 
 impl<'a> World<'a> {
@@ -46,10 +49,12 @@ impl<'a> World<'a> {
         for (q, home) in homes.iter().enumerate() {
             let _ = pairing.join(q as u32, home.0);
         }
+        let full = full_chunks(alloc, pairing.right.as_slice())?;
         Ok(World {
             card,
             pairing,
             blocks,
+            full,
         })
     }
 
@@ -71,6 +76,15 @@ impl<'a> World<'a> {
         self.pairing.right[t.0 as usize]
     }
 
+    /// Whether it is known that no trap of a chunk is empty.
+    pub(crate) fn is_full(&self, chunk: u32) -> bool
+        requires { chunk * 8 < trap_count self.now.architecture }
+        ensures { result ≡ true → (t : ℕ) → chunk * 8 ≤ t → t < chunk * 8 + 8 → t < trap_count self.now.architecture
+            → is_empty self.now.traps t ≡ false }
+    {
+        self.full[chunk as usize]
+    }
+
     /// Puts a qubit into an empty trap. The trap in which it was is empty from then on, and all else stays.
     pub fn put(&mut self, q: u32, t: TrapId)
         requires q_in { q < length self.old.traps }
@@ -78,7 +92,10 @@ impl<'a> World<'a> {
         requires empty { IsTrue (is_empty self.old.traps t.0) }
         ensures { self.new ≡ record { architecture = self.old.architecture; traps = slice_set self.old.traps q t.0 } }
     {
-        let _ = self.pairing.join(q, t.0);
+        let left = self.pairing.join(q, t.0);
+        clear_chunk(&mut self.full, left);
+        let chunk = t.0 / CHUNK;
+        self.full[chunk as usize] = is_chunk_full(self.pairing.right.as_slice(), chunk);
     }
 
     /// The storage traps in which no atom rests, by rising number. The only error is that memory ran out.

@@ -4,6 +4,7 @@ use Rattle.zac_arch.specs.declared.place.TrapId.{TrapId}
 use Rattle.zac_pairing.specs.Pairing.{mate, freed, free_count}
 use Rattle.zac_pairing.proofs.PairingFacts.{free_count-set_free}
 use Rattle.zac_world.specs.Places.{Places}
+use Rattle.zac_world.specs.Worlds.{AreFull}
 use Rattle.zac_world.proofs.PlacesFacts.{AreHomed, home_free, homed_more, traps_are_homes, placed_all}
 use Rattle.zac_world.proofs.world.World.new.Goals as goal
 
@@ -37,6 +38,7 @@ invariant_of-result c =
     record {
       placed = placed_all c.args.card.now c.args.homes.now c.loop-q.pairing.left.items c.loop-q.pairing.right.items c.loop-q.q c.loop-q.invariant.homed (omega arith) c.loop-q.invariant.right_len;
       blocks_are = c.in_ok-blocks.ensures;
+      full_are = subst (λ (l : List (Option ℕ)). AreFull l c.in_ok-full.full.items) c.as_slice.ensures.value c.in_ok-full.ensures;
     }
 
 pub returns : goal.returns
