@@ -18,7 +18,6 @@ use Rattle.zair_form.specs.Steps.{homes}
 use Rattle.zair_form.specs.Times.{HasLength, Timed}
 use Rattle.zair_machine.specs.Machine.{IsWrongHome}
 use Rattle.zair_state.specs.declared.fault.MachineFault.{MachineFault}
-use Rattle.zair_state.specs.FirstFault.{Breaks}
 use Rattle.zair_state.specs.Homes.{AreHomes}
 use Rattle.zair_state.specs.Legal.{IsLegal}
 use Rattle.zair_state.specs.Orders.{IsNamedOrder}
@@ -39,13 +38,8 @@ legal_at a s [] n t run is = absurd (let w = slice_get_within [] n t is in omega
 legal_at a s (u ∷ steps) zero t run is = subst (IsLegal a s) (same_Some u t is) run.0
 legal_at a s (u ∷ steps) (suc n) t run is = legal_at a (after s u) steps n t run.1 is
 
--- what a law says of the card: a legal step breaks no condition
-abbrev pub LegalBreaksNothing : Architecture → Type 0
-LegalBreaksNothing a = (s : State) (step : Step) → IsLegal a s step → (fault : MachineFault) → ¬ Breaks a s step fault
-
-pub none_illegal : (a : Architecture) (s : State) (steps : List Step) (n : ℕ) (fault : MachineFault) → LegalBreaksNothing a → IsLegalRun a s steps → ¬ IsFirstIllegal a s steps n fault
-none_illegal a s steps n fault law run illegal =
-    law (after_all s (take n steps)) illegal.step (legal_at a s steps n illegal.step run illegal.here) fault illegal.wrong.breaks
+pub none_illegal : (a : Architecture) (s : State) (steps : List Step) (n : ℕ) (fault : MachineFault) → IsLegalRun a s steps → ¬ IsFirstIllegal a s steps n fault
+none_illegal a s steps n fault run illegal = illegal.illegal (legal_at a s steps n illegal.step run illegal.here)
 
 -- an op that can be performed isn't refused
 not_refused : (ops : List Op) (log : List Entry) (n : ℕ) (what : Op) (fault : CheckFault) → CanPerform ops log n what → ¬ IsRefused ops log n what fault
@@ -113,25 +107,25 @@ none_long a program n lengths first =
     first.wrong (subst (HasLength a.figures) (get_or_from_slice_get program n first.instr first.instr first.here) (lengths n first.instr within))
 
 -- a program that replays a circuit has no fault but want of memory
-pub only_memory : (a : Architecture) (c : NativeCircuit) (program : List Instr) (number : ℕ) (fault : ReplayFault) → LegalBreaksNothing a →
+pub only_memory : (a : Architecture) (c : NativeCircuit) (program : List Instr) (number : ℕ) (fault : ReplayFault) →
     Replays a c program number → IsReplayFault a c program fault → fault ≡ Memory
-only_memory a c program number (Qubits text source) law replays told =
+only_memory a c program number (Qubits text source) replays told =
     absurd (told.2 (told.0 ∙ replays.timely.homes_are.each ∙ sym told.1))
-only_memory a c program number (Home q) law replays told = absurd (none_wrong a c.qubits (homes program) q replays.timely.homes_are told.1.0)
-only_memory a c program number (Length i) law replays told = absurd (none_long a program i replays.timely.lengths told.1)
-only_memory a c program number (Machine n fault) law replays told =
+only_memory a c program number (Home q) replays told = absurd (none_wrong a c.qubits (homes program) q replays.timely.homes_are told.1.0)
+only_memory a c program number (Length i) replays told = absurd (none_long a program i replays.timely.lengths told.1)
+only_memory a c program number (Machine n fault) replays told =
     let same = named_orders_same a.figures program told.0 replays.order told.1.named replays.timely.named in
-    absurd (none_illegal a (opening a (homes program)) (steps_in replays.order) n fault law replays.legal
+    absurd (none_illegal a (opening a (homes program)) (steps_in replays.order) n fault replays.legal
     (subst (λ (o : List Timed). IsFirstIllegal a (opening a (homes program)) (steps_in o) n fault) same told.3))
-only_memory a c program number (Check n fault) law replays told =
+only_memory a c program number (Check n fault) replays told =
     let same = named_orders_same a.figures program told.0 replays.order told.1.named replays.timely.named in
     absurd (none_refused a c (opening a (homes program)) (steps_in replays.order) n fault replays.realises
     (subst (λ (o : List Timed). IsFirstRefused a c (opening a (homes program)) (steps_in o) n fault) same told.2))
-only_memory a c program number (Missing op) law replays told =
+only_memory a c program number (Missing op) replays told =
     let same = named_orders_same a.figures program told.0 replays.order told.1.named replays.timely.named in
     absurd (none_missing c.ops (log_of (steps_in replays.order)) op replays.realises
     (subst (λ (o : List Timed). IsMissing c.ops (log_of (steps_in o)) op) same told.3))
-only_memory a c program number Memory law replays told = refl
+only_memory a c program number Memory replays told = refl
 
 -- a program that performs a circuit replays it
 pub performing_replays : (a : Architecture) (c : NativeCircuit) (program : List Instr) → Performs a c program → (number : ℕ) × Replays a c program number
@@ -149,10 +143,10 @@ performing_replays a c program performs =
     )
 
 -- no step of the named order is illegal
-pub none_illegal_in_order : (a : Architecture) (c : NativeCircuit) (program : List Instr) (order : List Timed) (n : ℕ) (fault : MachineFault) → LegalBreaksNothing a →
+pub none_illegal_in_order : (a : Architecture) (c : NativeCircuit) (program : List Instr) (order : List Timed) (n : ℕ) (fault : MachineFault) →
     Performs a c program → IsNamedOrder a.figures program order → ¬ IsFirstIllegal a (opening a (homes program)) (steps_in order) n fault
-none_illegal_in_order a c program order n fault law performs named illegal =
+none_illegal_in_order a c program order n fault performs named illegal =
     let own : List Timed = performs.named.0 in
     let same = named_orders_same a.figures program order own named performs.named.2 in
-    none_illegal a (opening a (homes program)) (steps_in own) n fault law (performs.orders own performs.named.1).legal
+    none_illegal a (opening a (homes program)) (steps_in own) n fault (performs.orders own performs.named.1).legal
     (subst (λ (o : List Timed). IsFirstIllegal a (opening a (homes program)) (steps_in o) n fault) same illegal)

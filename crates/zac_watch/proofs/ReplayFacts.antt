@@ -20,7 +20,7 @@ use Rattle.zair_state.specs.Homes.{AreHomes}
 use Rattle.zair_state.specs.Legal.{IsLegal}
 use Rattle.zair_state.specs.Orders.{IsNamedOrder}
 use Rattle.zair_state.specs.Performs.{steps_in}
-use Rattle.zair_state.specs.Run.{IsLegalRun, entries, log_of}
+use Rattle.zair_state.specs.Run.{IsLegalRun, after_all, entries, log_of}
 use Rattle.zair_state.specs.State.{opening}
 use Rattle.zac_watch.specs.declared.fault.ReplayFault.{ReplayFault}
 use Rattle.zac_watch.specs.declared.fault.ReplayFault.TheVariants.{Qubits, Home, Length, Machine, Check, Missing, Memory}
@@ -28,7 +28,7 @@ use Rattle.zac_watch.specs.Judging.{AreRefused, IsStepFault, WasDone}
 use Rattle.zac_watch.specs.Named.{places_in}
 use Rattle.zac_watch.specs.Replaying.{AreRight, IsFirstRefused, IsReplayFault, IsTimely, Replays}
 use Rattle.zac_watch.specs.Watching.{IsFirstIllegal}
-use Rattle.zac_watch.proofs.RunFacts.{IsRunSoFar, at_place, one_more_run, right_homes}
+use Rattle.zac_watch.proofs.RunFacts.{IsRunSoFar, LegalBreaksNothing, at_place, not_legal, one_more_run, right_homes}
 
 -- the steps before this number were done, and their ops performed
 pub record IsJudgedSoFar (a : Architecture) (ops : List Op) (program : List Instr) (places : List (ℕ × ℕ)) (k : ℕ) (m : Running) (log : List Entry) : Type 0 where
@@ -69,39 +69,42 @@ timely_of a c program order fit named = record { homes_are = fit.homes_are; leng
 
 -- a step that isn't right
 pub judged_ended : (a : Architecture) (c : NativeCircuit) (program : List Instr) (places : List (ℕ × ℕ)) (k : ℕ) (d : ℕ × ℕ) (m : Running) (log : List Entry) (fault : ReplayFault) →
-    IsFit a c program → IsJudgedSoFar a c.ops program places k m log → k < length places →
+    LegalBreaksNothing a → IsFit a c program → IsJudgedSoFar a c.ops program places k m log → k < length places →
     ((s : Step) → IsStepAt program (get_or places k d).0 (get_or places k d).1 s → IsStepFault c.ops m log s k fault) →
     IsReplayFault a c program fault
-judged_ended a c program places k d m log (Qubits text source) fit so_far within told =
+judged_ended a c program places k d m log (Qubits text source) law fit so_far within told =
     let found = at_place a.figures program so_far.order places k d so_far.named so_far.places_are within in
     absurd (told found.step found.at)
-judged_ended a c program places k d m log (Home q) fit so_far within told =
+judged_ended a c program places k d m log (Home q) law fit so_far within told =
     let found = at_place a.figures program so_far.order places k d so_far.named so_far.places_are within in
     absurd (told found.step found.at)
-judged_ended a c program places k d m log (Length i) fit so_far within told =
+judged_ended a c program places k d m log (Length i) law fit so_far within told =
     let found = at_place a.figures program so_far.order places k d so_far.named so_far.places_are within in
     absurd (told found.step found.at)
-judged_ended a c program places k d m log (Missing op) fit so_far within told =
+judged_ended a c program places k d m log (Missing op) law fit so_far within told =
     let found = at_place a.figures program so_far.order places k d so_far.named so_far.places_are within in
     absurd (told found.step found.at)
-judged_ended a c program places k d m log Memory fit so_far within told = tt
-judged_ended a c program places k d m log (Machine n fault) fit so_far within told =
+judged_ended a c program places k d m log Memory law fit so_far within told = tt
+judged_ended a c program places k d m log (Machine n fault) law fit so_far within told =
     let found = at_place a.figures program so_far.order places k d so_far.named so_far.places_are within in
     let why = told found.step found.at in
     let all : List Step = steps_in so_far.order in
     let is : k ≡ n = sym why.0 in
+    let wrong : IsFirstFault a (after_all (opening a (homes program)) (take k all)) found.step fault =
+    subst (λ (r : Running). IsFirstFault r.card r.state found.step fault) so_far.run.machine why.1 in
     let illegal : IsFirstIllegal a (opening a (homes program)) all k fault = record {
       step = found.step;
       here = found.here;
       before = so_far.run.legal;
-      wrong = subst (λ (r : Running). IsFirstFault r.card r.state found.step fault) so_far.run.machine why.1;
+      illegal = not_legal a (after_all (opening a (homes program)) (take k all)) found.step fault law wrong;
+      wrong = wrong;
     } in (
       so_far.order,
       timely_of a c program so_far.order fit so_far.named,
       subst (λ (i : ℕ). IsPerformable c.ops (log_of (take i all))) is (subst (IsPerformable c.ops) so_far.log_is so_far.performable),
       subst (λ (i : ℕ). IsFirstIllegal a (opening a (homes program)) all i fault) is illegal,
     )
-judged_ended a c program places k d m log (Check n fault) fit so_far within told =
+judged_ended a c program places k d m log (Check n fault) law fit so_far within told =
     let found = at_place a.figures program so_far.order places k d so_far.named so_far.places_are within in
     let why = told found.step found.at in
     let all : List Step = steps_in so_far.order in

@@ -12,6 +12,8 @@ use Rattle.zair_form.specs.declared.program.Instr.{Instr}
 use Rattle.zair_form.specs.Steps.{IsStepAt, homes, steps_of}
 use Rattle.zair_form.specs.Times.{Timed, AreTimed, AreTimedSteps}
 use Rattle.zair_machine.specs.Machine.{IsWrongHome, Running}
+use Rattle.zair_state.specs.declared.fault.MachineFault.{MachineFault}
+use Rattle.zair_state.specs.FirstFault.{Breaks, IsFirstFault}
 use Rattle.zair_state.specs.Homes.{AreHomes}
 use Rattle.zair_state.specs.Legal.{IsLegal}
 use Rattle.zair_state.specs.Orders.{IsNamedOrder}
@@ -21,6 +23,14 @@ use Rattle.zair_state.specs.Run.{IsLegalRun, after_all}
 use Rattle.zair_state.specs.State.{State, opening}
 use Rattle.zair_state.proofs.ChainOrder.{all_of_order}
 use Rattle.zac_watch.specs.Named.{places_in}
+
+-- what a law says of the card: a legal step breaks no condition
+abbrev pub LegalBreaksNothing : Architecture → Type 0
+LegalBreaksNothing a = (s : State) (step : Step) → IsLegal a s step → (fault : MachineFault) → ¬ Breaks a s step fault
+
+-- so a step with a fault isn't legal
+pub not_legal : (a : Architecture) (s : State) (step : Step) (fault : MachineFault) → LegalBreaksNothing a → IsFirstFault a s step fault → ¬ IsLegal a s step
+not_legal a s step fault law wrong legal = law s step legal fault wrong.breaks
 
 -- a program has one step at a place
 pub one_step_at : (program : List Instr) (instr place : ℕ) (s t : Step) → IsStepAt program instr place s → IsStepAt program instr place t → s ≡ t

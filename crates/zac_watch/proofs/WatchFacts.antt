@@ -22,7 +22,7 @@ use Rattle.zac_watch.specs.Named.{places_in}
 use Rattle.zac_watch.specs.Shown.{WereShown, sum_after}
 use Rattle.zac_watch.specs.Watching.{HasHomes, IsShowFault, IsWatchFault, WasStepShown, WasWatched}
 use Rattle.zac_watch.specs.Weights.{weight}
-use Rattle.zac_watch.proofs.RunFacts.{IsRunSoFar, at_place, one_more_run}
+use Rattle.zac_watch.proofs.RunFacts.{IsRunSoFar, LegalBreaksNothing, at_place, not_legal, one_more_run}
 
 -- the steps before this number were done and shown
 pub record IsShownSoFar (a : Architecture) (program : List Instr) (places : List (ℕ × ℕ)) (k : ℕ) (m : Running) (Shown : List Step → Type 0) : Type 0 where
@@ -95,17 +95,20 @@ watch_more kind sum old mid new a program places k d m m' so_far within done =
 
 -- a step that isn't shown
 pub watch_ended : {W : Type 0} (kind : W → Kind) (sum : W → ℕ) (old mid new : List W) (a : Architecture) (program : List Instr) (places : List (ℕ × ℕ)) (k : ℕ) (d : ℕ × ℕ) (m : Running) (fault : WatchFault) →
-    HasHomes a program → IsShownSoFar a program places k m (WereShown kind sum old mid) → k < length places →
+    LegalBreaksNothing a → HasHomes a program → IsShownSoFar a program places k m (WereShown kind sum old mid) → k < length places →
     ((s : Step) → IsStepAt program (get_or places k d).0 (get_or places k d).1 s → IsShowFault m k s (WereShown kind sum mid new) fault) →
     IsWatchFault a program (WereShown kind sum old new) fault
-watch_ended kind sum old mid new a program places k d m (Home q) have so_far within told =
+watch_ended kind sum old mid new a program places k d m (Home q) law have so_far within told =
     let found = at_place a.figures program so_far.order places k d so_far.named so_far.places_are within in
     absurd (told found.step found.at)
-watch_ended kind sum old mid new a program places k d m (Machine n fault) have so_far within told =
+watch_ended kind sum old mid new a program places k d m (Machine n fault) law have so_far within told =
     let found = at_place a.figures program so_far.order places k d so_far.named so_far.places_are within in
     let why = told found.step found.at in
     let all : List Step = steps_in so_far.order in
     let is : k ≡ n = sym why.0 in
+    let wrong : IsFirstFault a (after_all (opening a (homes program)) (take n all)) found.step fault =
+    subst (λ (i : ℕ). IsFirstFault a (after_all (opening a (homes program)) (take i all)) found.step fault) is
+    (subst (λ (r : Running). IsFirstFault r.card r.state found.step fault) so_far.run.machine why.1) in
     record {
       homes_are = have;
       order = so_far.order;
@@ -114,12 +117,12 @@ watch_ended kind sum old mid new a program places k d m (Machine n fault) have s
         step = found.step;
         here = ap (slice_get all) (sym is) ∙ found.here;
         before = subst (λ (i : ℕ). IsLegalRun a (opening a (homes program)) (take i all)) is so_far.run.legal;
-        wrong = subst (λ (i : ℕ). IsFirstFault a (after_all (opening a (homes program)) (take i all)) found.step fault) is
-            (subst (λ (r : Running). IsFirstFault r.card r.state found.step fault) so_far.run.machine why.1);
+        illegal = not_legal a (after_all (opening a (homes program)) (take n all)) found.step fault law wrong;
+        wrong = wrong;
       };
       shown = subst (λ (i : ℕ). WereShown kind sum old new (take i all)) is (shown_same kind sum old mid new (take k all) so_far.shown why.2);
     }
-watch_ended kind sum old mid new a program places k d m Memory have so_far within told =
+watch_ended kind sum old mid new a program places k d m Memory law have so_far within told =
     let found = at_place a.figures program so_far.order places k d so_far.named so_far.places_are within in
     inr (so_far.order, k, so_far.named, shown_same kind sum old mid new (take k (steps_in so_far.order)) so_far.shown (told found.step found.at))
 

@@ -25,6 +25,7 @@ pub record IsFirstIllegal (a : Architecture) (s : State) (steps : List Step) (nu
   pub step : Step
   pub here : slice_get steps number ≡ Some step
   pub before : IsLegalRun a s (take number steps)
+  pub illegal : ¬ IsLegal a (after_all s (take number steps)) step
   pub wrong : IsFirstFault a (after_all s (take number steps)) step fault
 
 -- The step is legal, was done on the machine, and was shown.

@@ -17,9 +17,6 @@ ghost use Rattle.zac_watch.specs.declared.fault.ReplayFault.TheVariants as told;
 ghost use Rattle.zac_watch.specs.Replaying.{IsReplayFault, Replays};
 ghost use Rattle.zac_watch.specs.Watching.{IsFirstIllegal};
 
-use zac_arch::Card;
-use zair_state::faults_tell_legal_steps;
-
 /// A program has one named order at most.
 pub fn named_orders_are_one()
     ensures { (f : Figures) (program : List Instr) (one other : List Timed)
@@ -27,12 +24,10 @@ pub fn named_orders_are_one()
 {}
 
 /// Of a program that replays a circuit no fault is told but a want of memory.
-pub fn replays_have_no_fault(card: &Card)
-    ensures { (c : NativeCircuit) (program : List Instr) (number : ℕ) (fault : ReplayFault)
-        → Replays card.now c program number → IsReplayFault card.now c program fault → fault ≡ told.Memory }
-{
-    faults_tell_legal_steps(card);
-}
+pub fn replays_have_no_fault()
+    ensures { (a : Architecture) (c : NativeCircuit) (program : List Instr) (number : ℕ) (fault : ReplayFault)
+        → Replays a c program number → IsReplayFault a c program fault → fault ≡ told.Memory }
+{}
 
 /// A program that performs a circuit replays it.
 pub fn performing_programs_replay()
@@ -41,12 +36,10 @@ pub fn performing_programs_replay()
 {}
 
 /// A program that performs a circuit has no wrong home, and no step of its named order is illegal.
-pub fn performing_programs_are_watched_whole(card: &Card)
-    ensures homes { (c : NativeCircuit) (program : List Instr) (q : ℕ)
-        → Performs card.now c program → ¬ IsWrongHome card.now (homes program) q }
-    ensures steps { (c : NativeCircuit) (program : List Instr) (order : List Timed) (number : ℕ) (fault : MachineFault)
-        → Performs card.now c program → IsNamedOrder card.now.figures program order
-        → ¬ IsFirstIllegal card.now (opening card.now (homes program)) (steps_in order) number fault }
-{
-    faults_tell_legal_steps(card);
-}
+pub fn performing_programs_are_watched_whole()
+    ensures homes { (a : Architecture) (c : NativeCircuit) (program : List Instr) (q : ℕ)
+        → Performs a c program → ¬ IsWrongHome a (homes program) q }
+    ensures steps { (a : Architecture) (c : NativeCircuit) (program : List Instr) (order : List Timed) (number : ℕ) (fault : MachineFault)
+        → Performs a c program → IsNamedOrder a.figures program order
+        → ¬ IsFirstIllegal a (opening a (homes program)) (steps_in order) number fault }
+{}

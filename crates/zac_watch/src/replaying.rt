@@ -12,6 +12,7 @@ use zac_arch::Card;
 use zac_gates::{Checklist, Circuit};
 use zair_form::Program;
 use zair_machine::{Machine, NewFault};
+use zair_state::faults_tell_legal_steps;
 
 /// How many steps a program has that replays a circuit on the card's machine: its homes are distinct storage traps, one
 /// for each qubit of the circuit; each instruction ends when its steps have; the steps in the named order, by begin, then
@@ -27,6 +28,7 @@ pub fn replay(
     ensures ok { IfOk result (Replays card.now circuit.now program.now) }
     ensures err { IfErr result (IsReplayFault card.now circuit.now program.now) }
 {
+    faults_tell_legal_steps(card);
     let homes = program.homes();
     let text = homes.len() as u64;
     let source = circuit.qubits();

@@ -15,6 +15,7 @@ use std::alloc::Global;
 use zac_arch::Card;
 use zair_form::{Program, Step};
 use zair_machine::{Machine, NewFault};
+use zair_state::faults_tell_legal_steps;
 
 /// Shows a watch a step.
 fn show_one(watch: &mut Box<dyn Watch>, step: &Step)
@@ -103,6 +104,7 @@ pub fn watched(
     ensures err { IfErr result (IsWatchFault card.now program.now
         (WereShown (λ w. kind w) (λ w. sum w) panel.old.items panel.new.items)) }
 {
+    faults_tell_legal_steps(card);
     let order = named_order(alloc, card, program)?;
     let mut machine = match Machine::new(alloc, card, program.homes()) {
         Ok(machine) => machine,

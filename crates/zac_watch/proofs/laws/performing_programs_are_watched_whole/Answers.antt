@@ -3,8 +3,7 @@ use Rattle.zac_watch.proofs.NoFault.{none_illegal_in_order, none_wrong}
 use Rattle.zac_watch.proofs.laws.performing_programs_are_watched_whole.Goals as goal
 
 pub returns-clause-homes : goal.returns-clause-homes
-returns-clause-homes c = λ circuit program q performs. none_wrong c.args.card.now circuit.qubits (homes program) q performs.homes
+returns-clause-homes c = λ a circuit program q performs. none_wrong a circuit.qubits (homes program) q performs.homes
 
 pub returns-clause-steps : goal.returns-clause-steps
-returns-clause-steps c = λ circuit program order number fault performs named.
-    none_illegal_in_order c.args.card.now circuit program order number fault c.faults_tell_legal_steps.ensures.legal performs named
+returns-clause-steps c = none_illegal_in_order

@@ -67,7 +67,7 @@ returns-in_err-judge-clause-err c =
     let r = err_from_is_err_and c.from_residual-in_err-judge.result c.from_residual-in_err-judge.ensures.1 in
     rw (r.1, r.2)
     (judged_ended a c.args.circuit.now c.args.program.now c.as_slice-instr-items.result.now c.loop-number.number (0, 0) c.loop-number.machine c.loop-number.checklist.log
-    c.in_err-judge.field-0.0 fit c.loop-number.invariant.judged c.loop-number-test.true c.in_err-judge.ensures.err)
+    c.in_err-judge.field-0.0 c.faults_tell_legal_steps.ensures.legal fit c.loop-number.invariant.judged c.loop-number-test.true c.in_err-judge.ensures.err)
 
 pub loop-number-preserved : goal.loop-number-preserved
 loop-number-preserved c = record {

@@ -50,7 +50,7 @@ returns-in_err-show_at-clause-err g c =
     let r = err_from_is_err_and c.from_residual-in_err-show_at.result c.from_residual-in_err-show_at.ensures.1 in
     rw (r.1, r.2)
     (watch_ended _ _ c.args.panel.now.items c.loop-number.panel.items c.show_at.new.panel.items a c.args.program.now c.as_slice-instr-items.result.now
-    c.loop-number.number (0, 0) c.loop-number.machine c.in_err-show_at.field-0.0 (right_homes a (homes c.args.program.now) right) c.loop-number.invariant c.loop-number-test.true c.in_err-show_at.ensures.err)
+    c.loop-number.number (0, 0) c.loop-number.machine c.in_err-show_at.field-0.0 c.faults_tell_legal_steps.ensures.legal (right_homes a (homes c.args.program.now) right) c.loop-number.invariant c.loop-number-test.true c.in_err-show_at.ensures.err)
 
 pub returns-clause-ok : goal.returns-clause-ok
 returns-clause-ok g c =
