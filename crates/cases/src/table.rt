@@ -28,6 +28,22 @@ pub enum Row<'a> {
         name: &'a str,
         path: &'a str,
     },
+    /// These lines of the real file at a path, by their numbers, are added to a file.
+    Lines {
+        name: &'a str,
+        path: &'a str,
+        numbers: &'a str,
+    },
+    /// In a file one text, with escapes, is changed to another.
+    Change {
+        name: &'a str,
+        old: &'a str,
+        new: &'a str,
+    },
+    /// Watches of these kinds are added to the panel.
+    Panel(&'a str),
+    /// The case is run with each front of this file.
+    Fronts(&'a str),
     /// A call fails.
     Fail {
         side: Side,
@@ -63,6 +79,24 @@ fn repeat_row(rest: &str) -> Option<Row<'_>> {
     Some(Row::Bytes { name, times, text })
 }
 
+/// The row `lines NAME PATH N ..`.
+fn lines_row(rest: &str) -> Row<'_> {
+    let (name, rest) = first_word(rest);
+    let (path, numbers) = first_word(rest);
+    Row::Lines {
+        name,
+        path,
+        numbers,
+    }
+}
+
+/// The row `change NAME OLD NEW`.
+fn change_row(rest: &str) -> Row<'_> {
+    let (name, rest) = first_word(rest);
+    let (old, new) = first_word(rest);
+    Row::Change { name, old, new }
+}
+
 /// The row `fail SIDE N`.
 fn fail_row(rest: &str) -> Option<Row<'_>> {
     let (side, call) = first_word(rest);
@@ -91,6 +125,10 @@ pub fn row_of(line: &str) -> Option<Row<'_>> {
             let (name, path) = first_word(rest);
             Some(Row::File { name, path })
         }
+        "lines" => Some(lines_row(rest)),
+        "change" => Some(change_row(rest)),
+        "panel" => Some(Row::Panel(rest)),
+        "fronts" => Some(Row::Fronts(rest)),
         "fail" => fail_row(rest),
         "room" => Some(Row::Room(rest.parse::<usize>().ok()?)),
         _ => None,

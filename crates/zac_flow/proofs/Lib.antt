@@ -10,3 +10,5 @@ pub mod Naming
 pub mod Making
 pub mod Straying
 pub mod Ending
+pub mod Showing
+pub mod Carrying

@@ -5,8 +5,11 @@ use Rattle.zac_archfile.specs.Faults.{IsFault}
 use Rattle.zac_archfile.specs.declared.fault.CardFault.{CardFault}
 use Rattle.zac_archfile.specs.declared.fault.CardFault.TheVariants as card
 use Rattle.zac_io.specs.Outside.{NamedFiles, IsLonger, Holds}
-use Rattle.zac_flow.specs.Faults.{MeansOfCompiling, IsCardFile, card_fault_of}
-use Rattle.zac_flow.specs.Inputs.{GivesCard, IsShortCard, IsRefusedCard, card_limit, source_limit}
+use Rattle.zac_flow.specs.Faults.{MeansByFiles, IsCardFile, card_fault_of}
+use Rattle.zac_flow.specs.Inputs.{Gives, GivesCard, AreShort, IsShortCard, IsRefusedCard, card_limit, source_limit, zair_limit}
+use Rattle.zac_flow.specs.Due.{two_files, three_files}
+use Rattle.zac_flow.specs.Words.{FileWords}
+use Rattle.zac_flow.specs.declared.inputs.Inputs.{Inputs}
 use Rattle.zac_flow.specs.declared.inputs.CardInput.{CardInput}
 use Rattle.zac_flow.specs.declared.inputs.CardInput.TheVariants.{Text}
 use Rattle.zac_flow.specs.declared.status.Fault.{Fault}
@@ -28,24 +31,41 @@ held_longer (Some file) text limit h = found (file text) refl h where
   found None e h = absurd h
   found (Some bytes) e h = (bytes, e, h)
 
--- a card's file that isn't read
-pub of_card : (files : Option NamedFiles) (word source : List ℕ) (f : Fault) → IsCardFile word →
-    (f ≡ Read file.Card) ⊎ (f ≡ Memory) ⊎ ((f ≡ Long file.Card) × IsLonger files word card_limit) → MeansOfCompiling files word source f
-of_card files word source f is (inl read) = subst (λ (x : Fault). MeansOfCompiling files word source x) (sym read) is
-of_card files word source f is (inr (inl memory)) = subst (λ (x : Fault). MeansOfCompiling files word source x) (sym memory) tt
-of_card files word source f is (inr (inr long)) =
-    let held = held_longer files word card_limit long.1 in
-    subst (λ (x : Fault). MeansOfCompiling files word source x) (sym long.0) (Text held.0, (is.0, is.1, held.1), held.2)
+module _ (files : Option NamedFiles) (w : FileWords) (f : Fault) where
+  means : (g : Fault) → f ≡ g → MeansByFiles files w g → MeansByFiles files w f
+  means g e h = subst (λ (x : Fault). MeansByFiles files w x) (sym e) h
 
--- a source's file that isn't read
-pub of_source : (files : Option NamedFiles) (word source : List ℕ) (c : CardInput) (f : Fault) → GivesCard files word c → IsShortCard c →
-    (f ≡ Read file.Source) ⊎ (f ≡ Memory) ⊎ ((f ≡ Long file.Source) × IsLonger files source source_limit) → MeansOfCompiling files word source f
-of_source files word source c f given short (inl read) = subst (λ (x : Fault). MeansOfCompiling files word source x) (sym read) (c, given, short)
-of_source files word source c f given short (inr (inl memory)) = subst (λ (x : Fault). MeansOfCompiling files word source x) (sym memory) tt
-of_source files word source c f given short (inr (inr long)) =
-    let held = held_longer files source source_limit long.1 in
-    subst (λ (x : Fault). MeansOfCompiling files word source x) (sym long.0)
-    (record { card = c; source = held.0 }, (given, held.1), (short, held.2))
+  -- a card's file that isn't read
+  pub of_card : IsCardFile w.card → (f ≡ Read file.Card) ⊎ (f ≡ Memory) ⊎ ((f ≡ Long file.Card) × IsLonger files w.card card_limit) → MeansByFiles files w f
+  of_card is (inl read) = means (Read file.Card) read is
+  of_card is (inr (inl memory)) = means Memory memory tt
+  of_card is (inr (inr long)) =
+      let held = held_longer files w.card card_limit long.1 in
+      means (Long file.Card) long.0 (Text held.0, (is.0, is.1, held.1), held.2)
+
+  -- a source's file that isn't read
+  pub of_source : (c : CardInput) → GivesCard files w.card c → IsShortCard c →
+      (f ≡ Read file.Source) ⊎ (f ≡ Memory) ⊎ ((f ≡ Long file.Source) × IsLonger files w.source source_limit) → MeansByFiles files w f
+  of_source c given short (inl read) = means (Read file.Source) read (c, given, short)
+  of_source c given short (inr (inl memory)) = means Memory memory tt
+  of_source c given short (inr (inr long)) =
+      let held = held_longer files w.source source_limit long.1 in
+      means (Long file.Source) long.0
+      (record { card = c; source = held.0; zair = None }, record { card = given; source = held.1; zair = tt }, (short, held.2))
+
+-- a text's file that isn't read
+pub of_text : (files : Option NamedFiles) (card source zair : List ℕ) (f : Fault) (i : Inputs) → Gives files (two_files card source) i → AreShort i →
+    (f ≡ Read file.Zair) ⊎ (f ≡ Memory) ⊎ ((f ≡ Long file.Zair) × IsLonger files zair zair_limit) → MeansByFiles files (three_files card source zair) f
+of_text files card source zair f i given short (inl read) =
+    means files (three_files card source zair) f (Read file.Zair) read (i, given, short, (λ e. absurd (cc)))
+of_text files card source zair f i given short (inr (inl memory)) = means files (three_files card source zair) f Memory memory tt
+of_text files card source zair f i given short (inr (inr long)) =
+    let held = held_longer files zair zair_limit long.1 in
+    means files (three_files card source zair) f (Long file.Zair) long.0 (
+      record { card = i.card; source = i.source; zair = Some held.0 },
+      record { card = given.card; source = given.source; zair = held.1 },
+      (short.card, short.source, held.2),
+    )
 
 told : (c : CardInput) (bytes : List ℕ) (f : CardFault) → c ≡ Text bytes → IsFault bytes f → IsRefusedCard c f
 told c bytes f is h = subst (λ (x : CardInput). IsRefusedCard x f) (sym is) h

@@ -1,5 +1,6 @@
 -- A card and a source have a fault, or are read, pass no limit and fit the storage.
-use Rattle.std.proofs.Common.{ℕ, ◌<◌, ◌≤◌, ◌⊎◌, inl, inr, List, length, refl}
+use Rattle.std.proofs.Common.{◌≡◌, ℕ, ◌<◌, ◌≤◌, ◌⊎◌, inl, inr, List, Option, None, Some, length, refl}
+use Rattle.std.specs.Prelude.{IfSome}
 use Rattle.std.proofs.lemmas.Bool.{cases_lt}
 use Rattle.zac_arch.specs.Architecture.{Architecture, storage_count}
 use Rattle.zac_arch.specs.Standard.{standard_architecture}
@@ -12,7 +13,7 @@ use Rattle.qasm_expand.specs.Items.{qubit_count}
 use Rattle.qasm_names.specs.Accepted.{Program}
 use Rattle.zac_flow.specs.Compiled.{AreReadAs}
 use Rattle.zac_flow.specs.Faults.{IsFaultOf}
-use Rattle.zac_flow.specs.Inputs.{AreShort, IsShortCard, IsCardOf, IsRefusedCard, source_limit}
+use Rattle.zac_flow.specs.Inputs.{AreShort, IsShortCard, IsCardOf, IsRefusedCard, source_limit, zair_limit}
 use Rattle.zac_flow.specs.declared.inputs.CardInput.{CardInput}
 use Rattle.zac_flow.specs.declared.inputs.CardInput.TheVariants.{Tiny, Standard, Text}
 use Rattle.zac_flow.specs.declared.inputs.Inputs.{Inputs}
@@ -36,26 +37,30 @@ module _ (some_card : SomeCard) (answered : (source : List ℕ) → IsAnswered s
   card_or_fault Standard = inl (standard_architecture, refl)
   card_or_fault (Text bytes) = some_card bytes
 
-  module _ (i : Inputs) (short : IsShortCard i.card) where
+  module _ (i : Inputs) (none : i.zair ≡ None) (short : IsShortCard i.card) where
+    no_text : (o : Option (List ℕ)) → o ≡ None → IfSome o (λ bytes. length bytes ≤ zair_limit)
+    no_text None e = tt
+    no_text (Some bytes) e = absurd (cc)
+
     behind_both : length i.source ≤ source_limit → ((a : Architecture) × IsCardOf i.card a) ⊎ ((f : CardFault) × IsRefusedCard i.card f) → IsAnswered i.source → IsFaultyOrFits i
     behind_both within (inr w) source =
-        inr (Card w.0, (record { card = short; source = within }, w.1))
+        inr (Card w.0, (record { card = short; source = within; zair = no_text i.zair none }, w.1))
     behind_both within (inl card) (inr (inr w)) =
-        inr (Source w.0 w.1, (record { card = short; source = within }, card, w.2))
+        inr (Source w.0 w.1, (record { card = short; source = within; zair = no_text i.zair none }, card, w.2))
     behind_both within (inl card) (inr (inl w)) =
-        let both : AreShort i = record { card = short; source = within } in
+        let both : AreShort i = record { card = short; source = within; zair = no_text i.zair none } in
         let read : AreReadAs i card.0 w.0 = record { short = both; card = card.1; accepted = w.3 } in
         inr (Limit w.1 w.2, (card.0, w.0, read, w.4))
     behind_both within (inl card) (inl w) = by_room (cases_lt (storage_count card.0) (qubit_count w.0.statements)) where
       both : AreShort i
-      both = record { card = short; source = within }
+      both = record { card = short; source = within; zair = no_text i.zair none }
 
       read : AreReadAs i card.0 w.0
       read = record { short = both; card = card.1; accepted = w.2 }
 
       by_room : (storage_count card.0 < qubit_count w.0.statements) ⊎ (qubit_count w.0.statements ≤ storage_count card.0) → IsFaultyOrFits i
       by_room (inl more) =
-          inr (Qubits (qubit_count w.0.statements) (storage_count card.0), (card.0, w.0, read, w.3, refl, refl, more))
+          inr (Qubits (qubit_count w.0.statements) (storage_count card.0), (card.0, w.0, read, w.3, refl, refl, more, none))
       by_room (inr fits) = inl (card.0, w.0, read, w.3, fits)
 
     by_length : (source_limit < length i.source) ⊎ (length i.source ≤ source_limit) → IsFaultyOrFits i

@@ -1,5 +1,6 @@
 -- Parts that are written one behind the other.
-use Rattle.std.proofs.Common.{◌≡◌, ℕ, suc, ◌+◌, ◌<◌, List, ◌∷◌, ◌++◌, map, drop, get_or, length, sym, ap, ◌∙◌, subst, append_assoc, drop-cons, arith, Option}
+use Rattle.std.proofs.Common.{◌≡◌, ℕ, suc, ◌+◌, ◌<◌, List, [], ◌∷◌, ◌++◌, map, drop, get_or, length, sym, ap, ◌∙◌, subst, append_assoc, drop-cons, arith, Option}
+use Rattle.std.proofs.lemmas.Grind.{flat_map-append}
 use Rattle.zac_io.specs.Outside.{Appends, AppendsPrefix, WritesAddUp}
 use Rattle.zair_text.specs.Lines.{joined}
 use Rattle.zac_flow.specs.Parts.{part_bytes}
@@ -26,3 +27,16 @@ module _ (law : WritesAddUp) (parts : List Part) (k : ℕ) (d : Part) (less : k 
       subst (λ (l : List ℕ). AppendsPrefix w b l) all
       (law.behind w a b said (part_bytes (get_or parts k d) ++ joined (map part_bytes (drop (k + 1) parts))) h
       (law.front a b (part_bytes (get_or parts k d)) (joined (map part_bytes (drop (k + 1) parts))) i))
+
+-- Writing parts, then others, and then a last text.
+module _ (law : WritesAddUp) (lead detail : List (List ℕ)) (last : List ℕ) where
+  apart : joined (lead ++ (detail ++ last ∷ [])) ≡ joined lead ++ (joined detail ++ joined (last ∷ []))
+  apart = flat_map-append (λ (bytes : List ℕ). bytes) lead (detail ++ last ∷ []) ∙ ap (λ (l : List ℕ). joined lead ++ l) (flat_map-append (λ (bytes : List ℕ). bytes) detail (last ∷ []))
+
+  -- the second failed
+  pub failed_second : (old between new : Option (List ℕ)) → Appends old between (joined lead) → AppendsPrefix between new (joined detail) →
+      AppendsPrefix old new (joined (lead ++ (detail ++ last ∷ [])))
+  failed_second old between new h i =
+      subst (λ (l : List ℕ). AppendsPrefix old new l) (sym apart)
+      (law.behind old between new (joined lead) (joined detail ++ joined (last ∷ [])) h
+      (law.front between new (joined detail) (joined (last ∷ [])) i))

@@ -13,10 +13,11 @@ use Rattle.zac_flow.specs.declared.status.InputFile.{InputFile}
 use Rattle.zac_flow.specs.declared.status.InputFile.TheVariants as file
 use Rattle.zac_flow.specs.declared.source_fault.Refusal.TheVariants.{Lex, Syntax, Scope}
 
--- The name of each file that a command reads: `card` or `source`.
+-- The name of each file that a command reads: `card`, `source` or `zair`.
 abbrev pub file_name : InputFile → List ℕ
 file_name file.Card = codes "card"
 file_name file.Source = codes "source"
+file_name file.Zair = codes "zair"
 
 -- The text of a card's refusal: its kind, and the name of the field or the number of the rule.
 abbrev pub card_fault_text : CardFault → List ℕ

@@ -7,6 +7,11 @@ pub mod Inputs
 pub mod Compiled
 pub mod Generator
 pub mod Parts
+pub mod Panel
+pub mod Replayed
+pub mod Texts
+pub mod Due
 pub mod Faults
 pub mod Answers
+pub mod Written
 pub mod Codes

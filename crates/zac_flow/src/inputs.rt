@@ -1,11 +1,12 @@
-//! What a command is given: its card, and its source.
+//! What a command is given: its card, its source, and its text.
 
-ghost use Rattle.std.specs.Prelude.{◌≡◌, ◌≢◌, ◌<◌, ◌≤◌, ◌⊎◌, ℕ, List, IfOk, IfErr, Some, length};
+ghost use Rattle.std.specs.Prelude.{◌≡◌, ◌≢◌, ◌<◌, ◌≤◌, ◌⊎◌, ℕ, List, Option, None, IfOk, IfErr, Some, length};
 ghost use Rattle.zac_io.specs.Outside.{RoseWhere, is_missing, Holds, IsLonger};
 ghost use Rattle.zac_flow.specs.Answers.{RisesAt, StraysRise};
-ghost use Rattle.zac_flow.specs.Faults.{MeansOfCompiling, outcome, IsCardFile};
+ghost use Rattle.zac_flow.specs.Due.{two_files, three_files};
+ghost use Rattle.zac_flow.specs.Faults.{MeansByFiles, outcome, IsCardFile};
 ghost use Rattle.zac_flow.specs.Inputs.{Gives, GivesCard, AreShort, IsShortCard};
-ghost use Rattle.zac_flow.specs.Words.{Compile};
+ghost use Rattle.zac_flow.specs.Words.{FileWords};
 ghost use Rattle.zac_flow.specs.declared.status.Status.TheVariants as status;
 
 use crate::status::{Fault, InputFile};
@@ -17,7 +18,10 @@ use zac_io::{ReadFault, Shelf, read_all};
 const CARD_LIMIT: u32 = 65_536;
 
 /// The most bytes of a source.
-const SOURCE_LIMIT: u32 = 4_194_304;
+pub(crate) const SOURCE_LIMIT: u32 = 4_194_304;
+
+/// The most bytes of the text of a program.
+const ZAIR_LIMIT: u32 = 268_435_456;
 
 /// The card of a command: a built-in one, or the bytes of a file.
 #[derive(Drop)]
@@ -35,6 +39,8 @@ pub enum CardInput {
 pub struct Inputs {
     pub card: CardInput,
     pub source: Bytes,
+    /// The text of a program, where the command has one.
+    pub zair: Option<Bytes>,
 }
 
 /// The bytes of the file of this name.
@@ -64,7 +70,7 @@ fn file_from<S: Shelf>(
 fn card_from<S: Shelf>(alloc: Global, shelf: &mut S, word: &str) -> Result<CardInput, Fault>
     ensures given { IfOk result (GivesCard (S.files shelf.old) word.now) }
     ensures short { IfOk result IsShortCard }
-    ensures means { IfErr result (λ f. (source : List ℕ) → MeansOfCompiling (S.files shelf.old) word.now source f) }
+    ensures means { IfErr result (λ f. (source : List ℕ) (zair : Option (List ℕ)) → MeansByFiles (S.files shelf.old) (record { card = word.now; source = source; zair = zair }) f) }
     ensures no_write { IfErr result (λ f. f ≢ Fault.Write) }
     ensures file { IfErr result (λ _. IsCardFile word.now) }
     ensures reads { RisesAt status.ReadFault (outcome result) (S.faults shelf.old) (S.faults shelf.new) }
@@ -89,15 +95,46 @@ pub fn inputs_from<S: Shelf>(
     card: &str,
     source: &str,
 ) -> Result<Inputs, Fault>
-    ensures given { IfOk result (Gives (S.files shelf.old) (Compile card.now source.now)) }
+    ensures given { IfOk result (Gives (S.files shelf.old) (two_files card.now source.now)) }
     ensures short { IfOk result AreShort }
-    ensures means { IfErr result (MeansOfCompiling (S.files shelf.old) card.now source.now) }
+    ensures no_text { IfOk result (λ i. i.zair ≡ None) }
+    ensures means { IfErr result (λ f. (zair : Option (List ℕ)) → MeansByFiles (S.files shelf.old) (record { card = card.now; source = source.now; zair = zair }) f) }
     ensures no_write { IfErr result (λ f. f ≢ Fault.Write) }
     ensures reads { RisesAt status.ReadFault (outcome result) (S.faults shelf.old) (S.faults shelf.new) }
-    ensures strays { StraysRise (S.files shelf.old) (Some (Compile card.now source.now)) (S.strays shelf.old) (S.strays shelf.new) }
+    ensures strays { StraysRise (S.files shelf.old) (Some (two_files card.now source.now)) (S.strays shelf.old) (S.strays shelf.new) }
     ensures same_files { S.files shelf.new ≡ S.files shelf.old }
 {
     let card = card_from(alloc, shelf, card)?;
     let source = file_from(alloc, shelf, source, InputFile::Source, SOURCE_LIMIT)?;
-    Ok(Inputs { card, source })
+    Ok(Inputs {
+        card,
+        source,
+        zair: None,
+    })
+}
+
+/// The card, the source and the text that three words give, read alike.
+pub fn texts_from<S: Shelf>(
+    alloc: Global,
+    shelf: &mut S,
+    card: &str,
+    source: &str,
+    zair: &str,
+) -> Result<Inputs, Fault>
+    ensures given { IfOk result (Gives (S.files shelf.old) (three_files card.now source.now zair.now)) }
+    ensures short { IfOk result AreShort }
+    ensures with_text { IfOk result (λ i. i.zair ≢ None) }
+    ensures means { IfErr result (MeansByFiles (S.files shelf.old) (three_files card.now source.now zair.now)) }
+    ensures no_write { IfErr result (λ f. f ≢ Fault.Write) }
+    ensures reads { RisesAt status.ReadFault (outcome result) (S.faults shelf.old) (S.faults shelf.new) }
+    ensures strays { StraysRise (S.files shelf.old) (Some (three_files card.now source.now zair.now)) (S.strays shelf.old) (S.strays shelf.new) }
+    ensures same_files { S.files shelf.new ≡ S.files shelf.old }
+{
+    let Inputs { card, source, .. } = inputs_from(alloc, shelf, card, source)?;
+    let zair = file_from(alloc, shelf, zair, InputFile::Zair, ZAIR_LIMIT)?;
+    Ok(Inputs {
+        card,
+        source,
+        zair: Some(zair),
+    })
 }

@@ -1,27 +1,29 @@
 //! What the words of a command name, and what "accepted", "refused" and "fault" mean of its card and its source, as laws.
 
-ghost use Rattle.std.specs.Prelude.{◌≡◌, ℕ, ◌≤◌, ◌⊎◌, List, Option};
-ghost use Rattle.zac_arch.specs.Architecture.{Architecture, storage_count};
+ghost use Rattle.std.specs.Prelude.{◌≡◌, ℕ, ◌≤◌, ◌⊎◌, List, Option, None, Some, length};
 ghost use Rattle.zac_gates.specs.Ops.{NativeCircuit};
+ghost use Rattle.zair_form.specs.declared.program.Instr.{Instr};
+ghost use Rattle.zair_text.specs.Lines.{program_text};
 ghost use Rattle.qasm_expand.specs.Expansion.{IsExpansion, IsWithinLimits, PassesFirst};
-ghost use Rattle.qasm_expand.specs.Items.{qubit_count};
 ghost use Rattle.qasm_expand.specs.declared.fault.LimitKind.{LimitKind};
 ghost use Rattle.qasm_names.specs.Accepted.{Program};
-ghost use Rattle.zac_flow.specs.Compiled.{AreReadAs};
-ghost use Rattle.zac_flow.specs.Faults.{IsFaultOf};
-ghost use Rattle.zac_flow.specs.Inputs.{IsShortCard};
+ghost use Rattle.zac_flow.specs.Compiled.{CompilesTo, IsServed};
+ghost use Rattle.zac_flow.specs.Faults.{IsFaultOf, status_of};
+ghost use Rattle.zac_flow.specs.Inputs.{IsShortCard, with_text, zair_limit};
 ghost use Rattle.zac_flow.specs.Source.{IsAccepted, IsRefusedAt};
 ghost use Rattle.zac_flow.specs.Words.{Command, Name};
 ghost use Rattle.zac_flow.specs.declared.inputs.Inputs.{Inputs};
 ghost use Rattle.zac_flow.specs.declared.source_fault.Refusal.{Refusal};
 ghost use Rattle.zac_flow.specs.declared.status.Fault.{Fault};
 
-use qasm_expand::each_program_expands;
 use qasm_expand::laws::one_limit;
+use qasm_expand::{each_program_expands, one_expansion};
 use qasm_lex::laws::tokens_or_one_fault;
 use qasm_parse::laws::{each_token_is_seen, statement_or_one_fault, tokens_fall_in_one_way};
 use qasm_scope::{one_header, one_judgement, tokens_go_to_the_end_or_stop};
 use zac_archfile::card_or_one_fault;
+use zac_watch::laws::{performing_programs_replay, replays_have_no_fault};
+use zair_read::laws::{program_or_one_fault, written_reads_back};
 
 /// All words name a command or none, and one alone.
 pub fn words_name_one_command()
@@ -55,18 +57,41 @@ pub fn one_answer()
     one_limit();
 }
 
-/// A source and a card within its limit have one fault, of all that they can have, or they are read, pass no limit and fit the
-/// storage, and never both.
+/// A source and a card within its limit have one fault, of all that they can have without a text, or they are read, pass no
+/// limit and fit the storage, and never both.
 pub fn one_fault()
-    ensures some { (inputs : Inputs) → IsShortCard inputs.card
-        → ((card : Architecture) × (program : Program) × AreReadAs inputs card program × IsWithinLimits program
-        × (qubit_count program.statements ≤ storage_count card)) ⊎ ((fault : Fault) × IsFaultOf inputs fault) }
-    ensures one_fault { (inputs : Inputs) (fault other : Fault) → IsFaultOf inputs fault
+    ensures some { (inputs : Inputs) → inputs.zair ≡ None → IsShortCard inputs.card → IsServed inputs None ⊎ ((fault : Fault) × IsFaultOf inputs fault) }
+    ensures one_fault { (inputs : Inputs) (fault other : Fault) → inputs.zair ≡ None → IsFaultOf inputs fault
         → IsFaultOf inputs other → fault ≡ other }
-    ensures not_both { (inputs : Inputs) (card : Architecture) (program : Program) (fault : Fault) → AreReadAs inputs card program
-        → IsWithinLimits program → qubit_count program.statements ≤ storage_count card → ¬ IsFaultOf inputs fault }
+    ensures not_both { (inputs : Inputs) (fault : Fault) → inputs.zair ≡ None → IsServed inputs None → ¬ IsFaultOf inputs fault }
 {
     card_or_one_fault();
     one_answer();
     one_limit();
+}
+
+/// What a command is given has faults of one status alone, with a text or without, and none where it is as the command wants
+/// it.
+pub fn one_status()
+    ensures one_status { (inputs : Inputs) (fault other : Fault) → IsFaultOf inputs fault → IsFaultOf inputs other
+        → status_of fault ≡ status_of other }
+    ensures not_both { (inputs : Inputs) (fault : Fault) → IsServed inputs inputs.zair → ¬ IsFaultOf inputs fault }
+{
+    card_or_one_fault();
+    one_answer();
+    one_limit();
+    one_expansion();
+    program_or_one_fault();
+    replays_have_no_fault();
+}
+
+/// The text of a program to which a card and a source compile is served by `replay` against the same card and source, where it
+/// is within its limit.
+pub fn compiled_texts_replay()
+    ensures { (inputs : Inputs) (program : List Instr) → CompilesTo inputs program
+        → length (program_text program) ≤ zair_limit
+        → IsServed (with_text inputs (program_text program)) (Some (program_text program)) }
+{
+    performing_programs_replay();
+    written_reads_back();
 }

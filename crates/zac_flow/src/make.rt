@@ -1,21 +1,11 @@
 //! Sources made by a generator, to try the compiler with.
 
-ghost use Rattle.std.specs.Prelude.{◌≡◌, ◌≢◌, ◌+◌, ◌*◌, ◌^◌, ◌<◌, ◌≤◌, ◌++◌, map, IfOk, IfErr, OnOk, Option, Some};
-ghost use Rattle.zair_text.specs.Lines.{joined};
-ghost use Rattle.zac_io.specs.Outside.{NamedFiles};
-ghost use Rattle.zac_flow.specs.Answers.{Does, RisesAt};
-ghost use Rattle.zac_flow.specs.Faults.{Means, Leaves, outcome};
+ghost use Rattle.std.specs.Prelude.{◌≡◌, ◌+◌, ◌*◌, ◌^◌, ◌<◌, ◌≤◌, ◌++◌, IfOk, OnOk};
 ghost use Rattle.zac_flow.specs.Generator.{next_state, first_of, second_of, pair_lines, made_source};
-ghost use Rattle.zac_flow.specs.Parts.{part_bytes};
-ghost use Rattle.zac_flow.specs.Words.{Make};
-ghost use Rattle.zac_flow.specs.declared.status.Status.TheVariants as status;
 
-use crate::part::Part;
-use crate::status::Fault;
-use itoa::Buffer;
+use crate::part::{Part, add_parts};
 use std::alloc::Global;
 use zac_gates::{Bytes, List, Memory};
-use zac_io::Sink;
 
 /// The state of the generator after a draw.
 fn next_state(state: u32) -> u32
@@ -43,27 +33,6 @@ fn second_qubit(n: u32, first: u32, state: u32) -> u32
     if drawn < first { drawn } else { drawn + 1 }
 }
 
-/// Adds a part.
-fn add_part(text: &mut Vec<u8>, part: Part) -> Result<(), Memory>
-    ensures { OnOk result (text.new.items ≡ text.old.items ++ part_bytes part) }
-{
-    match part {
-        Part::Text(it) => text.extend_from_slice(it.as_bytes())?,
-        Part::Number(it) => text.extend_from_slice(Buffer::new().format(it).as_bytes())?,
-    }
-    Ok(())
-}
-
-/// Adds the parts, one behind the other.
-fn add_parts(text: &mut Vec<u8>, parts: &[Part]) -> Result<(), Memory>
-    ensures { OnOk result (text.new.items ≡ text.old.items ++ joined (map part_bytes parts.now)) }
-{
-    for part in parts.iter() {
-        add_part(text, *part)?;
-    }
-    Ok(())
-}
-
 /// Adds the lines of a pair.
 fn add_pair(text: &mut Vec<u8>, first: u32, second: u32) -> Result<(), Memory>
     ensures { OnOk result (text.new.items ≡ text.old.items ++ pair_lines first second) }
@@ -72,11 +41,11 @@ fn add_pair(text: &mut Vec<u8>, first: u32, second: u32) -> Result<(), Memory>
         text,
         &[
             Part::Text("t q["),
-            Part::Number(u64::from(first)),
+            Part::Number(u128::from(first)),
             Part::Text("];\ncx q["),
-            Part::Number(u64::from(first)),
+            Part::Number(u128::from(first)),
             Part::Text("],q["),
-            Part::Number(u64::from(second)),
+            Part::Number(u128::from(second)),
             Part::Text("];\n"),
         ],
     )
@@ -95,7 +64,7 @@ pub fn make_text(alloc: Global, n: u32, k: u32) -> Result<Bytes, Memory>
         &mut text,
         &[
             Part::Text("OPENQASM 2.0;\ninclude \"qelib1.inc\";\nqreg q["),
-            Part::Number(u64::from(n)),
+            Part::Number(u128::from(n)),
             Part::Text("];\n"),
         ],
     )?;
@@ -107,22 +76,4 @@ pub fn make_text(alloc: Global, n: u32, k: u32) -> Result<Bytes, Memory>
         add_pair(&mut text, first, second_qubit(n, first, state))?;
     }
     Ok(List::of(text))
-}
-
-/// Writes the source that is made.
-pub fn write_made<K: Sink>(alloc: Global, n: u32, k: u32, out: &mut K) -> Result<(), Fault>
-    requires least { 2 ≤ n }
-    requires most { n ≤ 4096 }
-    requires few { k ≤ 50000 }
-    ensures done { (files : Option NamedFiles) → OnOk result (Does files (Some (Make n k)) (K.written out.old) (K.written out.new)) }
-    ensures means { (files : Option NamedFiles) → IfErr result (Means files (Some (Make n k))) }
-    ensures leaves { (files : Option NamedFiles) → IfErr result (Leaves files (Some (Make n k)) (K.written out.old) (K.written out.new)) }
-    ensures no_read { outcome result ≢ status.ReadFault }
-    ensures writes { RisesAt status.WriteFault (outcome result) (K.faults out.old) (K.faults out.new) }
-{
-    let text = make_text(alloc, n, k)?;
-    match out.write(text.as_slice()) {
-        Ok(()) => Ok(()),
-        Err(_failed) => Err(Fault::Write),
-    }
 }

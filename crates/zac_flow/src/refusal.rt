@@ -7,6 +7,7 @@ ghost use Rattle.zac_flow.specs.Faults.{fault_line};
 ghost use Rattle.zac_flow.specs.Parts.{part_bytes};
 
 use crate::part::Part;
+use crate::replay_refusal::tell_replay_fault;
 use crate::source_fault::limit_name;
 use crate::status::Fault;
 use itoa::Buffer;
@@ -20,7 +21,9 @@ impl Fault {
         ensures cause { HasCause result (E.faults err.old) (E.faults err.new) }
     {
         match *self {
-            Fault::Usage => err.write(b"usage: compile CARD QASM | make N K\n"),
+            Fault::Usage => err.write(
+                b"usage: compile CARD QASM | report CARD QASM | replay CARD QASM ZAIR | make N K | drill N K\n",
+            ),
             Fault::Read { file } => {
                 tell_parts(
                     &[
@@ -48,7 +51,7 @@ impl Fault {
                         Part::Text("source refused: "),
                         Part::Text(kind.name()),
                         Part::Text(" at "),
-                        Part::Number(at as u64),
+                        Part::Number(u128::from(at)),
                         Part::Text("\n"),
                     ],
                     err,
@@ -60,7 +63,7 @@ impl Fault {
                         Part::Text("limit: "),
                         Part::Text(limit_name(kind)),
                         Part::Text(" "),
-                        Part::Number(count),
+                        Part::Number(u128::from(count)),
                         Part::Text("\n"),
                     ],
                     err,
@@ -70,14 +73,25 @@ impl Fault {
                 tell_parts(
                     &[
                         Part::Text("too many qubits: "),
-                        Part::Number(qubits as u64),
+                        Part::Number(u128::from(qubits)),
                         Part::Text(" for "),
-                        Part::Number(traps as u64),
+                        Part::Number(u128::from(traps)),
                         Part::Text(" traps\n"),
                     ],
                     err,
                 )
             }
+            Fault::Zair { line } => {
+                tell_parts(
+                    &[
+                        Part::Text("zair refused: line "),
+                        Part::Number(u128::from(line)),
+                        Part::Text("\n"),
+                    ],
+                    err,
+                )
+            }
+            Fault::NotTheCircuit { fault } => tell_replay_fault(fault, err),
             Fault::Write => err.write(b"write fault\n"),
             Fault::Memory => err.write(b"out of memory\n"),
         }
@@ -96,7 +110,7 @@ fn tell_card_fault<E: Sink>(fault: CardFault, err: &mut E) -> Result<(), Failed>
         CardFault::NotWhole(field) => tell_card_parts("NotWhole ", Part::Text(field.name()), err),
         CardFault::Range(field) => tell_card_parts("Range ", Part::Text(field.name()), err),
         CardFault::Invalid(rule) => {
-            tell_card_parts("Invalid ", Part::Number(u64::from(rule)), err)
+            tell_card_parts("Invalid ", Part::Number(u128::from(rule)), err)
         }
         CardFault::Memory => tell_card_parts("Memory", Part::Text(""), err),
     }
@@ -120,7 +134,7 @@ fn tell_card_parts<E: Sink>(kind: &'static str, detail: Part, err: &mut E) -> Re
 }
 
 /// Writes the parts, one behind the other.
-fn tell_parts<E: Sink>(parts: &[Part], err: &mut E) -> Result<(), Failed>
+pub fn tell_parts<E: Sink>(parts: &[Part], err: &mut E) -> Result<(), Failed>
     ensures line { Writes (E.written err.old) (E.written err.new) (joined (map part_bytes parts.now)) result }
     ensures cause { HasCause result (E.faults err.old) (E.faults err.new) }
 {

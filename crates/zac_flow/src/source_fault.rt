@@ -43,6 +43,7 @@ impl InputFile {
         match self {
             InputFile::Card => "card",
             InputFile::Source => "source",
+            InputFile::Zair => "zair",
         }
     }
 }

@@ -1,17 +1,23 @@
-//! The stages of `compile`: from its inputs to its text.
+//! The stages of a command: from its inputs to a program, and to its text.
 
-ghost use Rattle.std.specs.Prelude.{◌≡◌, ◌<◌, ◌≤◌, ◌⊎◌, Err, IfOk, IfErr, OnOk, length};
+ghost use Rattle.std.specs.Prelude.{◌≡◌, ◌≢◌, ◌<◌, ◌≤◌, ◌⊎◌, ℕ, List, None, Err, IfOk, IfErr, OnOk, length};
 ghost use Rattle.zac_arch.specs.Architecture.{storage_count};
 ghost use Rattle.zac_archfile.specs.declared.fault.CardFault.{CardFault};
 ghost use Rattle.zac_io.specs.Outside.{Appends, AppendsPrefix};
 ghost use Rattle.zac_plan.specs.Plan.{IsPlanned, pairs_in};
 ghost use Rattle.zac_sched.specs.Exchange.{OrdersAgree};
+ghost use Rattle.zac_watch.specs.Replaying.{IsReplayFault, Replays};
+ghost use Rattle.zac_watch.specs.declared.fault.ReplayFault.{ReplayFault};
+ghost use Rattle.zair_form.specs.Ranges.{ProgramFits};
+ghost use Rattle.zair_form.specs.declared.program.Instr.{Instr};
+ghost use Rattle.zair_read.specs.Texts.{IsProgramText, IsFirstWrong};
 ghost use Rattle.zair_state.specs.Performs.{Performs};
 ghost use Rattle.zair_text.specs.Lines.{program_text, program_lines};
 ghost use Rattle.zair_text.specs.Ranges.{AreWritable};
+ghost use Rattle.zair_text.specs.Tally.{totals_of};
 ghost use Rattle.zair_text.specs.Writing.{AppendsLines};
 ghost use Rattle.zac_flow.specs.Answers.{RisesAt};
-ghost use Rattle.zac_flow.specs.Compiled.{IsCircuitOf, CompilesTo};
+ghost use Rattle.zac_flow.specs.Compiled.{IsCircuitOf, CompilesTo, ReplaysIn};
 ghost use Rattle.zac_flow.specs.Faults.{IsFaultOrWant, outcome};
 ghost use Rattle.zac_flow.specs.Inputs.{AreShort, IsCardOf, IsRefusedCard};
 ghost use Rattle.zac_flow.specs.declared.status.Status.TheVariants as status;
@@ -23,21 +29,80 @@ use qasm_expand::{ExpandFault, expand};
 use std::alloc::Global;
 use zac_arch::Card;
 use zac_archfile::read_card;
-use zac_gates::Circuit;
+use zac_gates::{Bytes, Circuit};
 use zac_io::Sink;
 use zac_plan::{PlanFault, compile};
+use zac_watch::{ReplayFault, replay};
 use zair_form::Program;
-use zair_text::{WriteFault, write_program};
+use zair_read::{ProgramFault, read_program};
+use zair_text::{Totals, WriteFault, tally, write_program};
+
+/// A program, and the card that it was compiled for.
+#[derive(Drop)]
+pub struct Compiled {
+    pub card: Card,
+    pub program: Program,
+}
 
 /// The program of a card and a source. The card is judged first, then the source, its limits, and its number of qubits.
-pub fn program_from(alloc: Global, inputs: &Inputs) -> Result<Program, Fault>
-    requires { AreShort inputs.now }
-    ensures ok { IfOk result (CompilesTo inputs.now) }
+pub fn compiled_from(alloc: Global, inputs: &Inputs) -> Result<Compiled, Fault>
+    requires short { AreShort inputs.now }
+    requires no_text { inputs.now.zair ≡ None }
+    ensures ok { IfOk result (λ compiled. (is : CompilesTo inputs.now compiled.program) × (is.card ≡ compiled.card)) }
     ensures fault { IfErr result (IsFaultOrWant inputs.now) }
 {
     let card = card_of(alloc, &inputs.card)?;
     let circuit = circuit_from(alloc, &card, inputs)?;
-    plan_from(alloc, &card, &circuit)
+    let program = plan_from(alloc, &card, &circuit)?;
+    Ok(Compiled { card, program })
+}
+
+/// A program that replays a circuit: how many steps it has, and its totals.
+#[derive(Clone, Copy, Drop)]
+pub struct Verdict {
+    pub steps: u64,
+    pub totals: Totals,
+}
+
+/// What is told of a text that replays. The card is judged first, then the source, its limits, the text, and the replay.
+pub fn verdict_from(alloc: Global, inputs: &Inputs) -> Result<Verdict, Fault>
+    requires short { AreShort inputs.now }
+    requires with_text { inputs.now.zair ≢ None }
+    ensures ok { IfOk result (λ verdict. (program : List Instr) × ReplaysIn inputs.now program verdict.steps × (verdict.totals ≡ totals_of program)) }
+    ensures fault { IfErr result (IsFaultOrWant inputs.now) }
+{
+    let card = card_of(alloc, &inputs.card)?;
+    let circuit = circuit_from(alloc, &card, inputs)?;
+    let text = inputs.zair.as_ref().unwrap();
+    let program = program_of(alloc, text)?;
+    let steps = steps_of(alloc, &card, &circuit, &program)?;
+    let totals = tally(alloc, &program)?;
+    Ok(Verdict { steps, totals })
+}
+
+/// The program of a text.
+fn program_of(alloc: Global, text: &Bytes) -> Result<Program, Fault>
+    ensures ok { IfOk result (λ program. IsProgramText text.now program) }
+    ensures fault { IfErr result (λ f. (f ≡ Fault.Memory) ⊎ ((line : ℕ) × (f ≡ Fault.Zair line) × IsFirstWrong text.now line)) }
+{
+    match read_program(alloc, text.as_slice()) {
+        Ok(program) => Ok(program),
+        Err(ProgramFault::Line { line }) => Err(Fault::Zair { line }),
+        Err(ProgramFault::Memory) => Err(Fault::Memory),
+    }
+}
+
+/// How many steps a program has that replays a circuit.
+fn steps_of(alloc: Global, card: &Card, circuit: &Circuit, program: &Program) -> Result<u64, Fault>
+    ensures ok { IfOk result (Replays card.now circuit.now program.now) }
+    ensures fault { IfErr result (λ f. (f ≡ Fault.Memory) ⊎ ((cause : ReplayFault) × (f ≡ Fault.NotTheCircuit cause)
+        × IsReplayFault card.now circuit.now program.now cause × (cause ≢ ReplayFault.Memory))) }
+{
+    match replay(alloc, card, circuit, program) {
+        Ok(steps) => Ok(steps),
+        Err(ReplayFault::Memory) => Err(Fault::Memory),
+        Err(fault) => Err(Fault::NotTheCircuit { fault }),
+    }
 }
 
 /// The card.
@@ -79,6 +144,7 @@ fn plan_from(alloc: Global, card: &Card, circuit: &Circuit) -> Result<Program, F
     ensures ok { IfOk result (Performs card.now circuit.now) }
     ensures agree { IfOk result (OrdersAgree card.now) }
     ensures planned { IfOk result (IsPlanned card.now circuit.now) }
+    ensures ranges { IfOk result ProgramFits }
     ensures fits { OnOk result (circuit.now.qubits ≤ storage_count card.now) }
     ensures fault { IfErr result (λ f. (f ≡ Fault.Memory) ⊎ ((f ≡ Fault.Qubits circuit.now.qubits (storage_count card.now))
         × (storage_count card.now < circuit.now.qubits))) }

@@ -6,6 +6,7 @@ use crate::source_fault::Refusal;
 use qasm_expand::LimitKind;
 use zac_archfile::CardFault;
 use zac_gates::Memory;
+use zac_watch::ReplayFault;
 
 /// The status with which a command ends.
 #[derive(Clone, Copy, Debug, PartialEq, Eq)]
@@ -26,6 +27,10 @@ pub enum Status {
     CardRefused,
     /// The circuit has more qubits than the card has storage traps.
     TooManyQubits,
+    /// The text is that of no program.
+    ZairRefused,
+    /// The program doesn't replay the circuit.
+    NotTheCircuit,
     /// A file is longer than its limit.
     TooLong,
     /// The source passes a limit of the expansion.
@@ -48,6 +53,8 @@ impl Status {
             Status::NoMemory => 5,
             Status::CardRefused => 6,
             Status::TooManyQubits => 7,
+            Status::ZairRefused => 8,
+            Status::NotTheCircuit => 9,
             Status::TooLong => 10,
             Status::Limit => 11,
         }
@@ -61,10 +68,12 @@ pub enum InputFile {
     Card,
     /// That of the source.
     Source,
+    /// That of the text of a program.
+    Zair,
 }
 
 /// Why a command is refused.
-#[derive(Clone, Copy, Debug, PartialEq, Eq)]
+#[derive(Clone, Copy, Debug)]
 pub enum Fault {
     /// The words are no command.
     Usage,
@@ -80,6 +89,10 @@ pub enum Fault {
     Limit { kind: LimitKind, count: u64 },
     /// So many qubits for so many storage traps.
     Qubits { qubits: u32, traps: u32 },
+    /// The text is that of no program, and this line is the first wrong one, counted from 1.
+    Zair { line: u64 },
+    /// The program doesn't replay the circuit.
+    NotTheCircuit { fault: ReplayFault },
     /// The output could not be written.
     Write,
     /// There was no memory.
@@ -101,6 +114,8 @@ impl Fault {
             Fault::Source { .. } => Status::SourceRefused,
             Fault::Limit { .. } => Status::Limit,
             Fault::Qubits { .. } => Status::TooManyQubits,
+            Fault::Zair { .. } => Status::ZairRefused,
+            Fault::NotTheCircuit { .. } => Status::NotTheCircuit,
             Fault::Write => Status::WriteFault,
             Fault::Memory => Status::NoMemory,
         }

@@ -17,6 +17,6 @@ returns c =
     } in
     record {
       some = faulty_or_fits cards.some source.some;
-      one_fault = fault_once law;
-      not_both = λ inputs card program fault read within fits h. fits_or_fault law inputs card program read within fits fault h;
+      one_fault = λ inputs fault other none left right. fault_once law inputs none fault other left right;
+      not_both = λ inputs fault none served h. fits_or_fault law inputs none served.0 served.1 served.2 served.3 served.4 fault h;
     }
