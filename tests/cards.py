@@ -9,6 +9,7 @@ import glob
 import json
 import math
 import os
+import re
 import sys
 
 TOP = os.path.join(os.path.dirname(os.path.abspath(__file__)), "..")
@@ -46,26 +47,43 @@ def no_constant(text):
     raise ValueError
 
 
-def judge_depth_and_strings(value, depth):
+class Pairs(list):
+    """The keys and values of an object, also of keys that come again."""
+
+
+def is_too_deep(text):
+    """Some array or object stands in more than 126 others."""
+    if text.count("[") + text.count("{") < 128:
+        return False
+    depths, depth = [], 0
+    for sign in re.sub(r'"(?:[^"\\]|\\.)*"', "", text):
+        depth += (sign in "[{") - (sign in "]}")
+        depths.append(depth)
+    return max(depths) > 127
+
+
+def plain(value):
+    """The value without the Pairs in it: a key that comes again counts by its last value."""
     if isinstance(value, str):
         value.encode()
-    if isinstance(value, (list, dict)):
-        if depth == 127:
-            raise ValueError
-        inner = value if isinstance(value, list) else list(value) + list(value.values())
-        for item in inner:
-            judge_depth_and_strings(item, depth + 1)
+    if isinstance(value, Pairs):
+        return {plain(key): plain(item) for key, item in value}
+    return [plain(item) for item in value] if isinstance(value, list) else value
+
+
+def value_of(data):
+    """The value that bytes are as JSON; a ValueError where they are none."""
+    text = data.decode()
+    if text.startswith("\ufeff") or is_too_deep(text):
+        raise ValueError
+    return plain(json.loads(text, parse_int=whole, parse_float=fraction, parse_constant=no_constant, object_pairs_hook=Pairs))
 
 
 def parsed(data):
     """The object that the bytes are."""
     try:
-        text = data.decode()
-        if text.startswith("\ufeff"):
-            raise ValueError
-        value = json.loads(text, parse_int=whole, parse_float=fraction, parse_constant=no_constant)
-        judge_depth_and_strings(value, 0)
-    except (ValueError, RecursionError, OverflowError):
+        value = value_of(data)
+    except (ValueError, OverflowError):
         raise Refused("NotJson") from None
     if not isinstance(value, dict):
         raise Refused("NotJson")

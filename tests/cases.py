@@ -1,5 +1,5 @@
 #!/usr/bin/env python3
-"""What the cases of crates/cases have to answer, worked out anew from the rules in docs/ by tests/plan.py and front.py,
+"""What the cases of crates/cases have to answer, worked out anew from the rules in docs/ by tests/plan.py, front.py and judge.py,
 which are another program in another language than the compiler. Where the rules of a plan leave a choice, it is judged and taken over
 from the built program, if there is one.
 
@@ -10,13 +10,15 @@ import subprocess
 import sys
 import tempfile
 
+import judge
 import plan
 
 DATA = os.path.join(os.path.dirname(os.path.abspath(__file__)), "../crates/cases/data")
 PROGRAM = os.path.join(os.path.dirname(os.path.abspath(__file__)), "../crates/zac_cli/out/zac_cli")
 ROOM = 16777216
-USAGE = (2, "usage: compile CARD QASM | make N K\n")
-LIMITS = {"card": 65536, "source": 4194304}
+USAGE = (2, "usage: compile CARD QASM | report CARD QASM | replay CARD QASM ZAIR | make N K | drill N K\n")
+LIMITS = {"card": 65536, "source": 4194304, "zair": 268435456}
+COMMANDS = {"compile": 3, "report": 3, "replay": 4}
 
 
 def unescaped(text):
@@ -78,54 +80,93 @@ class Case:
     def __init__(self, words):
         self.words, self.files, self.room = words, {}, ROOM
         self.failing = {"shelf": [], "out": [], "err": []}
+        self.kinds, self.fronts = [], None
 
-    def ended(self):
-        """The status, what err holds, and what out holds."""
+    def change(self, name, old, new):
+        before, _, behind = bytes(self.files[name]).partition(unescaped(old))
+        self.files[name] = bytearray(before + unescaped(new) + behind)
+
+    def ended(self, files):
+        """The status, what err holds, what out holds, and whether the panel was shown the steps of a text, which it is then."""
         words = self.words.split()
-        if len(words) == 3 and words[0] == "make" and is_number(words[1], 2, 4096) and is_number(words[2], 0, 50000):
-            return self.written([plan.pairs_source(int(words[1]), int(words[2]))])
-        if len(words) != 3 or words[0] != "compile":
-            return *USAGE, ""
+        command = words[0] if words else ""
+        if command in ("make", "drill") and len(words) == 3 and is_number(words[1], 2, 4096) and is_number(words[2], 0, 50000):
+            source = plan.pairs_source(int(words[1]), int(words[2]))
+            if command == "make":
+                return self.written([source])
+            _, _, line = judge.drill(compiled(plan.built_in("@standard"), source.encode()))
+            return self.written([line])
+        if len(words) != COMMANDS.get(command):
+            return *USAGE, "", None
         given, calls = {}, 0
-        for kind, name in (("card", words[1]), ("source", words[2])):
+        for kind, name in zip(LIMITS, words[1:]):
             if kind == "card" and name in ("@tiny", "@standard"):
                 given[kind] = plan.built_in(name)
                 continue
-            data = bytes(self.files.get(name, b""))
-            needed = calls_to_read(len(data), LIMITS[kind]) if name in self.files else 1
-            if name not in self.files or any(calls < call <= calls + needed for call in self.failing["shelf"]):
-                return 3, f"read fault: {kind}\n", ""
+            data = bytes(files.get(name, b""))
+            needed = calls_to_read(len(data), LIMITS[kind]) if name in files else 1
+            if name not in files or any(calls < call <= calls + needed for call in self.failing["shelf"]):
+                return 3, f"read fault: {kind}\n", "", None
             calls += needed
             if len(data) > LIMITS[kind]:
-                return 10, f"too long: {kind}\n", ""
+                return 10, f"too long: {kind}\n", "", None
             given[kind] = data
-        status, line, text = compiled(given["card"], given["source"])
-        return (status, line, "") if status else self.written(text)
+        return self.judged(command, **given)
+
+    def judged(self, command, card, source, zair=None):
+        if command == "replay":
+            status, line, text = judge.replay(card, source, zair)
+            return (status, line, "", None) if status else self.written([text])
+        status, line, text = compiled(card, source)
+        if status:
+            return status, line, "", None
+        if command == "compile":
+            return self.written(text)
+        _, _, told = judge.report((status, line, text), self.kinds)
+        return *self.written([told])[:3], text
 
     def written(self, text):
         out = ""
         for number, each in enumerate(text, 1):
             if number in self.failing["out"]:
-                return 4, "write fault\n", out
+                return 4, "write fault\n", out, None
             out += each
             if len(out) > self.room:
-                return 4, "write fault\n", out[: self.room]
-        return 0, "", out
+                return 4, "write fault\n", out[: self.room], None
+        return 0, "", out, None
 
     def answer(self):
-        status, err, out = self.ended()
+        yield f"case {self.words}"
+        if self.fronts is None:
+            yield from self.told(*self.ended(self.files))
+            return
+        last, whole = None, self.files[self.fronts]
+        for front in range(len(whole) + 1):
+            end = self.ended({**self.files, self.fronts: whole[:front]})
+            if end != last:
+                yield f"  from {front} bytes of {self.fronts} on"
+                yield from self.told(*end)
+            last = end
+
+    def told(self, status, err, out, shown):
         if 1 in self.failing["err"]:
             err = ""
-        yield f"case {self.words}"
         yield f"  status {status}"
         for name, text in (("err", err), ("out", out)):
             lines = text.split("\n")
-            if len(lines) > 21:
+            if len(lines) > 21 or len(text) > 100000:
                 yield f"  {name} has {len(lines) - 1} lines, {len(text)} bytes"
                 continue
             yield from (f"  {name}: {line}" for line in lines[:-1])
             if lines[-1]:
                 yield f"  {name} front: {lines[-1]}"
+        for kind, count in zip(self.kinds, judge.sums(self.kinds, shown or [])):
+            yield f"  shown {kind} {count}"
+
+
+def real_file(path):
+    with open(os.path.join(DATA, path), "rb") as file:
+        return file.read()
 
 
 def answers(table):
@@ -145,7 +186,17 @@ def answers(table):
             times, _, text = behind.partition(" ")
             case.files.setdefault(name, bytearray()).extend(unescaped(text) * int(times))
         if head == "file":
-            case.files.setdefault(name, bytearray()).extend(open(os.path.join(DATA, behind), "rb").read())
+            case.files.setdefault(name, bytearray()).extend(real_file(behind))
+        if head == "lines":
+            path, *numbers = behind.split()
+            lines = real_file(path).splitlines(keepends=True)
+            case.files.setdefault(name, bytearray()).extend(b"".join(lines[int(number) - 1] for number in numbers))
+        if head == "change":
+            case.change(name, *behind.split(" ", 1))
+        if head == "panel":
+            case.kinds += rest.split()
+        if head == "fronts":
+            case.fronts = rest
         if head == "fail":
             case.failing[name].append(int(behind))
         if head == "room":

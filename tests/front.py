@@ -4,6 +4,7 @@ tokens, statements, scope and expansion by plain replacing.
 
     front.py FILE      the native ops of a source, one a line, or the line of its refusal
 """
+import functools
 import re
 import sys
 import threading
@@ -11,14 +12,15 @@ import threading
 RESERVED = "include qreg creg gate opaque measure reset barrier if pi sin cos tan exp ln sqrt".split()
 FUNCTIONS = "sin cos tan exp ln sqrt".split()
 PIECES = [
-    ("blank", rb"[ \t\r\n]"),
-    ("blank", rb"//[^\n]*"),
-    ("word", rb"[a-z][A-Za-z0-9_]*"),
-    ("real", rb"(?:[0-9]+\.[0-9]*|\.[0-9]+)(?:[eE][+-]?[0-9]+)?|[0-9]+[eE][+-]?[0-9]+"),
-    ("string", rb'"[^"\n]*"'),
-    ("sign", rb"->|==|[;,(){}\[\]+\-*/^]"),
+    ("blank", re.compile(rb"[ \t\r\n]")),
+    ("blank", re.compile(rb"//[^\n]*")),
+    ("word", re.compile(rb"[a-z][A-Za-z0-9_]*")),
+    ("real", re.compile(rb"(?:[0-9]+\.[0-9]*|\.[0-9]+)(?:[eE][+-]?[0-9]+)?|[0-9]+[eE][+-]?[0-9]+")),
+    ("string", re.compile(rb'"[^"\n]*"')),
+    ("sign", re.compile(rb"->|==|[;,(){}\[\]+\-*/^]")),
 ]
-HEADER = None
+CAPITAL = re.compile(rb"[A-Z][A-Za-z0-9_]*")
+DIGITS = re.compile(rb"[0-9]+")
 
 
 class Refused(Exception):
@@ -34,19 +36,19 @@ def lex(source):
     while at < len(source):
         best = (0, None)
         for kind, pattern in PIECES:
-            m = re.compile(pattern).match(source, at)
+            m = pattern.match(source, at)
             if m and m.end() - at > best[0]:
                 best = (m.end() - at, kind)
-        m = re.compile(rb"[A-Z][A-Za-z0-9_]*").match(source, at)
+        m = CAPITAL.match(source, at)
         if m and m.group() in (b"OPENQASM", b"U", b"CX"):
             best = (m.end() - at, "capital")
-        m = re.compile(rb"[0-9]+").match(source, at)
+        m = DIGITS.match(source, at)
         if m and best[1] != "real" and (m.group() == b"0" or m.group()[:1] != b"0"):
             best = (m.end() - at, "whole")
         if best[0] == 0:
             raise Refused("Lex", at)
         if best[1] != "blank":
-            tokens.append((best[1], source[at : at + best[0]].decode(), at))
+            tokens.append((best[1], source[at : at + best[0]].decode("latin-1"), at))
         at += best[0]
     return tokens
 
@@ -540,12 +542,15 @@ def read_into(scope, source):
     return statements
 
 
-def program(source):
+@functools.cache
+def header():
     base = Scope()
     read_into(base, HEADER_TEXT)
-    header = dict(base.own)
-    header["cz"] = ("gate", "CZ", 0, 2)
-    scope = Scope(header)
+    return {**base.own, "cz": ("gate", "CZ", 0, 2)}
+
+
+def program(source):
+    scope = Scope(header())
     statements = read_into(scope, source)
     limits(scope, statements)
     return scope

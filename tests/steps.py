@@ -36,14 +36,17 @@ def twice(items):
 class Card:
     """The traps of a card: the point of each, and whether a pulse lights it; and the boxes that a pulse lights."""
 
-    def __init__(self, name):
-        with open(os.path.join(TOP, f"examples/cards/{name}.json")) as file:
-            self.figures = json.load(file)
-        self.points, self.lit, self.boxes = [], [], []
+    def __init__(self, figures):
+        self.figures, self.points, self.lit, self.boxes = figures, [], [], []
         for kind in ["storage", "entangling"]:
             for zone in self.figures[kind]:
                 self.add(zone, kind == "entangling")
         self.most = [self.figures["rows"], self.figures["columns"]]
+        self.trap_at = {point: trap for trap, point in enumerate(self.points)}
+        # The traps by squares that are as wide as a crossing reaches, so that those near a point are in its square or beside it.
+        self.squares, self.width = {}, max(1, self.figures["reach"])
+        for x, y in self.points:
+            self.squares.setdefault((x // self.width, y // self.width), []).append((x, y))
 
     def add(self, zone, lit):
         own = []
@@ -56,6 +59,12 @@ class Card:
         if lit:
             xs, ys, radius = [p[0] for p in own], [p[1] for p in own], self.figures["radius"]
             self.boxes.append((min(xs) - radius, max(xs) + radius, min(ys) - radius, max(ys) + radius))
+
+    def touches(self, p):
+        """Some trap is within reach of a point."""
+        x, y = p[0] // self.width, p[1] // self.width
+        beside = [self.squares.get((x + i, y + j), ()) for i in (-1, 0, 1) for j in (-1, 0, 1)]
+        return any(near(p, trap, self.figures["reach"]) for traps in beside for trap in traps)
 
     def lights(self, p):
         return any(box[0] <= p[0] <= box[1] and box[2] <= p[1] <= box[3] for box in self.boxes)
@@ -85,7 +94,7 @@ class Machine:
         return not any(near(point, p, self.reach) for beams in others for p in self.crossings(beams).values())
 
     def clear(self, aod, point):
-        return self.free(aod, point) and not any(near(point, trap, self.reach) for trap in self.card.points)
+        return self.free(aod, point) and not self.card.touches(point)
 
     def held(self, aod):
         """The qubit at each crossing of an AOD that holds one."""
@@ -142,7 +151,7 @@ class Machine:
         old, ids = self.beams_of(aod), [[k for k, _ in beams] for beams in listed]
         after = [dict(beams) for beams in listed]
         held, points = self.held(aod), self.crossings(after)
-        traps = {key: self.card.points.index(p) for key, p in points.items() if p in self.card.points}
+        traps = {key: self.card.trap_at[p] for key, p in points.items() if p in self.card.trap_at}
 
         def is_right(key, p):
             return self.clear(aod, p) or (key in held and key in traps and self.free(aod, p))
@@ -161,11 +170,11 @@ class Machine:
 
     def deactivate(self, aod, ids, atoms):
         old = self.beams_of(aod)
-        points, traps = self.crossings(old), dict(enumerate(self.card.points))
+        points = self.crossings(old)
         gone = {q: key for key, q in self.held(aod).items() if key[0] in ids[0] or key[1] in ids[1]}
         qubits = [q for q, _ in atoms]
         wrong = [q for q in gone if q not in qubits] + list(twice(qubits))
-        wrong += [q for q, trap in atoms if q not in gone or points[gone[q]] != traps.get(trap)]
+        wrong += [q for q, trap in atoms if q not in gone or self.card.trap_at.get(points[gone[q]]) != trap]
 
         def do():
             self.beams[aod] = [{k: at for k, at in old[axis].items() if k not in ids[axis]} for axis in [0, 1]]
@@ -222,11 +231,15 @@ class Machine:
         return {name: set(wrongs[name]) for name in NAMES if wrongs.get(name)}
 
     def step(self, line):
-        """Does the step, or tells its fault: the least thing that breaks the first broken condition."""
+        """Does the step of a line, or tells its fault."""
         head, *words = line.split(" ")
-        do, _ = self.judge(head, words)
-        for name, things in self.wrongs(line).items():
-            return told(name, min(things))
+        return self.done(*self.judge(head, words))
+
+    def done(self, do, wrongs):
+        """Does a step, or tells its fault: the least thing that breaks the first broken condition."""
+        for name in NAMES:
+            if wrongs.get(name):
+                return told(name, min(wrongs[name]))
         do()
         return "ok"
 
@@ -255,7 +268,12 @@ def sections(words, names):
     return parts
 
 
-CARDS = {name: Card(name) for name in ["tiny", "square"]}
+def card_named(name):
+    with open(os.path.join(TOP, f"examples/cards/{name}.json")) as file:
+        return Card(json.load(file))
+
+
+CARDS = {name: card_named(name) for name in ["tiny", "square"]}
 
 
 def begin(words):
@@ -501,4 +519,5 @@ def renew(is_check):
                 file.write(text)
 
 
-main()
+if __name__ == "__main__":
+    main()
