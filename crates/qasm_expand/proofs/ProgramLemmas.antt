@@ -3,6 +3,7 @@ use Rattle.std.proofs.Common.{◌≡◌, ℕ, ◌+◌, ◌*◌, ◌≤◌, List,
 use Rattle.std.specs.Option.{option_or}
 use Rattle.std.specs.List.{flat_map}
 use Rattle.std.proofs.lemmas.List.{append-nil}
+use Rattle.zac_gates.specs.Ops.{pairs_in}
 use Rattle.zac_gates.specs.declared.circuit.Op.{Op}
 use Rattle.zac_gates.specs.declared.circuit.Op.TheVariants.{One, Two, Fence, Read}
 use Rattle.qasm_names.specs.declared.gate.Target.TheVariants as target
@@ -17,7 +18,7 @@ use Rattle.qasm_expand.specs.Expansion.{IsExpansion, IsWithinLimits, PassesFirst
 use Rattle.qasm_expand.specs.Items.{Item, program_items}
 use Rattle.qasm_expand.specs.Items.Item.{Applied, Barrier, Measured}
 use Rattle.qasm_expand.specs.Limits.{Passed, passed_before_calls, passed_by_calls}
-use Rattle.qasm_expand.specs.Native.{native_circuit, native_ops, pairs_in}
+use Rattle.qasm_expand.specs.Native.{native_circuit, native_ops}
 use Rattle.qasm_expand.specs.Replacing.{Expands}
 use Rattle.qasm_expand.specs.Walks.{Passes, Walks, nodes_of}
 use Rattle.qasm_expand.proofs.FaultsLemmas.{or_left_none}

@@ -1,5 +1,5 @@
 -- The native ops of calls without a body.
-use Rattle.std.specs.Prelude.{ℕ, suc, List, [], ◌∷◌, codes}
+use Rattle.std.specs.Prelude.{ℕ, List, [], ◌∷◌, codes}
 use Rattle.std.specs.List.{flat_map}
 use Rattle.zac_gates.specs.Ops.{NativeCircuit}
 use Rattle.zac_gates.specs.declared.angle.Angles.{Angles}
@@ -32,12 +32,6 @@ abbrev pub native_ops : Item → List Op
 native_ops (Applied to angles qubits) = ops_on to angles qubits
 native_ops Barrier = Fence ∷ []
 native_ops (Measured qubit bit) = Read qubit bit ∷ []
-
--- How many of these ops are pairs.
-abbrev pub pairs_in : List Op → ℕ
-pairs_in [] = 0
-pairs_in (Two a b ∷ ops) = suc (pairs_in ops)
-pairs_in (other ∷ ops) = pairs_in ops
 
 -- The circuit of a program's qubits and bits, with the native ops of these items in order.
 abbrev pub native_circuit : List Stmt → List Item → NativeCircuit

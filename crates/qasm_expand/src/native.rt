@@ -3,7 +3,7 @@
 ghost use Rattle.std.specs.Prelude.{◌≡◌, ◌≤◌, ◌⊎◌, ℕ, length, IfOk, IfErr, IsErrOf, IsErrAnd};
 ghost use Rattle.qasm_expand.specs.Answers.{TellsLimit};
 ghost use Rattle.qasm_expand.specs.Expansion.{IsWithinLimits, PassesFirst, IsExpansion};
-ghost use Rattle.qasm_expand.specs.Native.{pairs_in};
+ghost use Rattle.zac_gates.specs.Ops.{pairs_in};
 ghost use Rattle.qasm_expand.specs.declared.fault.LimitKind.{LimitKind};
 
 use crate::fault::ExpandFault;

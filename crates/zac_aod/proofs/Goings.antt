@@ -16,7 +16,7 @@ use Rattle.zac_group.specs.declared.shift.Shift.{Shift}
 use Rattle.zair_form.specs.Times.{rows_set, columns_set, last_at, change, greatest_change}
 use Rattle.zair_form.specs.declared.step.Beam.{Beam}
 use Rattle.zair_form.specs.declared.step.Step.{Step}
-use Rattle.zair_state.specs.Chain.{GoesSomewhere, EachGoesSomewhere}
+use Rattle.zair_state.specs.Moves.{GoesSomewhere, EachGoesSomewhere}
 use Rattle.zair_state.proofs.Changing.{not_farther_there}
 use Rattle.zair_state.proofs.Membership.{contains_none, contains_here, contains_cases, contains_map, pairs_head}
 use Rattle.zac_aod.specs.Lines.{rows_of, columns_of, number_of, has_atom}

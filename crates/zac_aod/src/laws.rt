@@ -11,7 +11,7 @@ ghost use Rattle.zac_group.specs.Groups.{IsGroup};
 ghost use Rattle.zac_group.specs.declared.shift.Shift.{Shift};
 ghost use Rattle.zair_form.specs.Ranges.{StepFits};
 ghost use Rattle.zair_form.specs.Times.{LastTogether};
-ghost use Rattle.zair_state.specs.Chain.{EachGoesSomewhere};
+ghost use Rattle.zair_state.specs.Moves.{EachGoesSomewhere};
 
 use zac_arch::{Card, laws_of_parking, laws_of_traps, laws_of_zones};
 

@@ -1,5 +1,5 @@
 -- Native ops, which of them are valid, and which op waits for which.
-use Rattle.std.specs.Prelude.{◌≡◌, ◌≢◌, ℕ, ◌<◌, ◌^◌, ◌⊎◌, length, Bool, true, false, List, Some}
+use Rattle.std.specs.Prelude.{◌≡◌, ◌≢◌, ℕ, suc, ◌<◌, ◌^◌, ◌⊎◌, length, Bool, true, false, List, [], ◌∷◌, Some}
 use Rattle.std.specs.List.{slice_get}
 use Rattle.zac_gates.specs.declared.circuit.Op.{Op}
 use Rattle.zac_gates.specs.declared.circuit.Op.TheVariants.{One, Two, Fence, Read}
@@ -47,6 +47,12 @@ is_fence (One q angles) = false
 is_fence (Two a b) = false
 is_fence Fence = true
 is_fence (Read q bit) = false
+
+-- How many of these ops are pairs.
+abbrev pub pairs_in : List Op → ℕ
+pairs_in [] = 0
+pairs_in (Two a b ∷ ops) = suc (pairs_in ops)
+pairs_in (other ∷ ops) = pairs_in ops
 
 -- The op names the qubit. A pair names both of its qubits, and a fence names none.
 abbrev pub Names : Op → ℕ → Type 0

@@ -21,7 +21,7 @@ use Rattle.zair_form.specs.declared.step.ReadOf.{ReadOf}
 use Rattle.zair_form.specs.declared.step.Step.{Step}
 use Rattle.zair_form.specs.declared.step.Step.TheVariants.{One, Pulse}
 use Rattle.zair_form.specs.declared.step.Step.TheVariants as step
-use Rattle.zair_state.specs.Chain.{EachGoesSomewhere}
+use Rattle.zair_state.specs.Moves.{EachGoesSomewhere}
 use Rattle.zair_state.specs.Legal.{Rests}
 use Rattle.zair_state.specs.Invariant.{IsSound}
 use Rattle.zair_state.specs.Run.{IsLegalRun, after_all}

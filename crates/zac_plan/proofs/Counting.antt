@@ -6,7 +6,7 @@ use Rattle.std.proofs.lemmas.Bool.{and_parts, cases_Bool, eqb-true}
 use Rattle.std.proofs.lemmas.List.FromFn.{length-range_with_len}
 use Rattle.zac_gates.specs.declared.circuit.Op.{Op}
 use Rattle.zac_gates.specs.declared.circuit.Op.TheVariants as op
-use Rattle.zac_plan.specs.Plan.{pairs_in}
+use Rattle.zac_gates.specs.Ops.{pairs_in}
 use Rattle.zac_stage.specs.Numbers.{is_one, is_pair, is_one_of, is_pair_of}
 use Rattle.zac_stage.specs.Staging.{Staging, IsStaging}
 
@@ -116,11 +116,6 @@ pub gates_most : (s : Staging) → IsStaging s → size s.gates ≤ length s.cir
 gates_most s right =
     let most = size_most (is_one_of s.circuit.ops s.numbers) (λ k. slice_index s.numbers k) (one_once s) (range_with_len 0 (length s.circuit.ops)) 0 (length s.pairs + 1) in
     omega (arith, ap size right.gates_are, length-range_with_len 0 (length s.circuit.ops))
-
-pub pairs_most : (s : Staging) → IsStaging s → size s.pairs ≤ length s.circuit.ops
-pairs_most s right =
-    let most = size_most (is_pair_of s.circuit.ops s.numbers) (λ k. slice_index s.numbers k) (pair_once s) (range_with_len 0 (length s.circuit.ops)) 0 (length s.pairs) in
-    omega (arith, ap size right.pairs_are, length-range_with_len 0 (length s.circuit.ops))
 
 one_hit : (b : Bool) → hit b ≤ 1
 one_hit true = omega arith

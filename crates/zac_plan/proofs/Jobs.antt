@@ -22,7 +22,7 @@ use Rattle.zair_form.specs.Steps.{has_own_steps, is_step_of, steps_of}
 use Rattle.zair_form.specs.declared.program.Act.{Act}
 use Rattle.zair_form.specs.declared.program.Act.TheVariants as act
 use Rattle.zair_form.specs.declared.step.Step.{Step}
-use Rattle.zair_state.specs.Chain.{MovesGoSomewhere}
+use Rattle.zair_state.specs.Moves.{MovesGoSomewhere}
 use Rattle.zair_state.specs.Invariant.{IsSound}
 use Rattle.zair_state.specs.Result.{after, after_dropping}
 use Rattle.zair_state.specs.Run.{IsLegalRun, after_all, entries, log_of}

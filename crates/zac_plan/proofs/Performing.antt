@@ -20,7 +20,7 @@ use Rattle.zair_form.specs.Steps.{has_own_steps, is_init, may_follow, steps_of}
 use Rattle.zair_form.specs.Times.{HasLength}
 use Rattle.zair_form.specs.declared.program.Act.{Act}
 use Rattle.zair_form.specs.declared.program.Instr.{Instr}
-use Rattle.zair_state.specs.Chain.{MovesGoSomewhere}
+use Rattle.zair_state.specs.Moves.{MovesGoSomewhere}
 use Rattle.zair_state.specs.Homes.{AreHomes}
 use Rattle.zair_state.specs.Performs.{listed_steps}
 use Rattle.zair_state.specs.Resources.{AreApart}

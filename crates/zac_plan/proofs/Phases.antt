@@ -5,36 +5,13 @@ use Rattle.std.specs.List.Sorted.{IsPermutation}
 use Rattle.std.proofs.lemmas.Bool.{cases_eq}
 use Rattle.std.proofs.lemmas.List.Elements.{Contains-append_left}
 use Rattle.std.proofs.lemmas.List.Sorted.{Contains-permutation, IsPermutation-sym}
-use Rattle.zac_arch.specs.Architecture.{Architecture}
 use Rattle.zac_arch.specs.declared.place.TrapId.{TrapId}
-use Rattle.zair_form.specs.declared.step.Step.{Step}
-use Rattle.zair_state.specs.State.{State, opening}
 use Rattle.zair_state.specs.Result.{after}
-use Rattle.zair_state.specs.Run.{IsLegalRun, after_all}
 use Rattle.zac_group.specs.declared.shift.Shift.{Shift}
 use Rattle.zac_plan.specs.Plan.{after_shifts}
 use Rattle.zac_plan.specs.Seats.{CanMake}
 use Rattle.zac_plan.proofs.Lists.{contained_in_none, contains_cases, contains_here, contains_later, pairs_cons, pairs_head, pairs_none, pairs_tail, same_places, slice_get-set_same, slice_get-set_other}
-use Rattle.zac_plan.proofs.Rests.{LeadsTo}
 use Rattle.zac_plan.proofs.Shuffled.{atoms_permute, targets_permute}
-
-pub legal-append : (a : Architecture) (s : State) (xs ys : List Step) → IsLegalRun a s xs → IsLegalRun a (after_all s xs) ys → IsLegalRun a s (xs ++ ys)
-legal-append a s [] ys h k = k
-legal-append a s (x ∷ xs) ys h k = (h.0, legal-append a (after s x) xs ys h.1 k)
-
-pub after-append : (s : State) (xs ys : List Step) → after_all s (xs ++ ys) ≡ after_all (after_all s xs) ys
-after-append s [] ys = refl
-after-append s (x ∷ xs) ys = after-append (after s x) xs ys
-
--- one part after another
-pub leads-append : (a : Architecture) (t u v : List TrapId) (xs ys : List Step) → LeadsTo a t xs u → LeadsTo a u ys v → LeadsTo a t (xs ++ ys) v
-leads-append a t u v xs ys h k = record {
-  legal = legal-append a (opening a t) xs ys h.legal (subst (λ (s : State). IsLegalRun a s ys) (sym h.leaves) k.legal);
-  leaves = after-append (opening a t) xs ys ∙ ap (λ (s : State). after_all s ys) h.leaves ∙ k.leaves;
-}
-
-pub leads_nowhere : (a : Architecture) (t : List TrapId) → LeadsTo a t [] t
-leads_nowhere a t = record { legal = tt; leaves = refl }
 
 -- two equal options
 some_same : (t u : TrapId) → Some t ≡ Some u → t ≡ u

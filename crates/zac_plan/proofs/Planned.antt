@@ -10,7 +10,7 @@ use Rattle.zac_arch.specs.Architecture.{Architecture, site_count, storage_count,
 use Rattle.zac_arch.specs.Rules.{KeepsRules}
 use Rattle.zac_arch.specs.declared.place.TrapId.{TrapId}
 use Rattle.zac_arch.proofs.Geometry.{storage_count_most, trap_count_is}
-use Rattle.zac_gates.specs.Ops.{NativeCircuit, IsInRange, IsValid}
+use Rattle.zac_gates.specs.Ops.{NativeCircuit, IsInRange, IsValid, pairs_in}
 use Rattle.zac_gates.specs.declared.circuit.Op.{Op}
 use Rattle.zac_place.specs.Homes.{AreApartInStorage}
 use Rattle.zac_world.specs.Places.{Places}
@@ -28,7 +28,7 @@ use Rattle.zair_state.specs.State.{State, opening}
 use Rattle.zac_plan.specs.declared.agenda.Agenda.{Agenda}
 use Rattle.zac_plan.specs.Growth.{FitsOnEach, GoesOn, GrowsByRound, IsStagingOf, numbers_at, pulse_before}
 use Rattle.zac_plan.specs.Leading.{LeadOn}
-use Rattle.zac_plan.specs.Plan.{AreRounds, IsPlan, IsRound, after_arrivals, gates_at, gates_todo, pairs_at, pairs_in, places, reads_in, reads_todo}
+use Rattle.zac_plan.specs.Plan.{AreRounds, IsPlan, IsRound, after_arrivals, gates_at, gates_todo, pairs_at, places, reads_in, reads_todo}
 use Rattle.zac_plan.specs.Seats.{AreSeated, IsPulse, rests_in}
 use Rattle.zac_plan.proofs.Acts.{lead_append, readout_part, round_part, seated_next, slot_part, sound_after}
 use Rattle.zac_plan.proofs.Counting.{size, gates_most, pairs_are_few}
@@ -174,9 +174,6 @@ module _ (a : Architecture) (c : NativeCircuit) (s : Staging) (rules : KeepsRule
 
   pub fits_at : (t : ℕ) (numbers : List ℕ) → slice_get s.pairs t ≡ Some numbers → IsPulse a c.qubits (pairs_at c.ops numbers)
   fits_at t numbers at = all_at_place (λ numbers. IsPulse a c.qubits (pairs_at c.ops numbers)) s.pairs t numbers (pulses_fit a c s valid of) at
-
-  pub pulse_few : (t : ℕ) (numbers : List ℕ) → slice_get s.pairs t ≡ Some numbers → length numbers ≤ site_count a
-  pulse_few t numbers at = subst (λ n. length numbers ≤ n) of.sites (all_at_place (λ numbers. length numbers ≤ s.sites) s.pairs t numbers of.few at)
 
   pub pulse_some : (t : ℕ) (numbers : List ℕ) → slice_get s.pairs t ≡ Some numbers → 1 ≤ length numbers
   pulse_some t numbers at = all_at_place (λ numbers. 1 ≤ length numbers) s.pairs t numbers of.some at

@@ -7,10 +7,8 @@ use Rattle.std.specs.Prelude.{replicate}
 use Rattle.zac_arch.specs.Architecture.{Architecture, trap_points, trap_count, StandsAt}
 use Rattle.zac_arch.specs.declared.place.TrapId.{TrapId}
 use Rattle.zac_group.specs.Moves.{point_at}
-use Rattle.zair_form.specs.declared.step.Step.{Step}
 use Rattle.zair_state.specs.declared.place.Place.TheVariants.{Trap}
 use Rattle.zair_state.specs.State.{beams_of, idle, opening, IsAt}
-use Rattle.zair_state.specs.Run.{IsLegalRun, after_all}
 
 idle_at : (m k : ℕ) → slice_index_or (replicate m idle) k idle ≡ idle
 idle_at zero k = refl
@@ -35,8 +33,3 @@ rests_only_in a traps q t h = in_trap (slice_get traps q) t (sym (slice_get-map 
 -- no AOD has a beam in a state at rest
 pub no_beam : (a : Architecture) (traps : List TrapId) (aod : ℕ) → beams_of (opening a traps) aod ≡ idle
 no_beam a traps aod = idle_at a.figures.aods aod
-
--- the steps are legal from a state at rest, and lead to another state at rest
-pub record LeadsTo (a : Architecture) (traps : List TrapId) (steps : List Step) (traps' : List TrapId) : Type 0 where
-  pub legal : IsLegalRun a (opening a traps) steps
-  pub leaves : after_all (opening a traps) steps ≡ opening a traps'

@@ -6,7 +6,7 @@ use Rattle.zac_sched.specs.Exchange.{AreTidySteps}
 use Rattle.zac_sched.specs.Todos.{IsOfCard, NamesQubitsBelow, act_on}
 use Rattle.zac_sched.specs.declared.todo.Todo.{Todo}
 use Rattle.zair_form.specs.Steps.{steps_of}
-use Rattle.zair_state.specs.Chain.{MovesGoSomewhere}
+use Rattle.zair_state.specs.Moves.{MovesGoSomewhere}
 use Rattle.zair_state.specs.Run.{after_all}
 use Rattle.zair_state.specs.State.{opening}
 

@@ -1,5 +1,5 @@
 -- The plan of a circuit: what is to be done, and in which order.
-use Rattle.std.specs.Prelude.{◌≡◌, ℕ, suc, ◌-◌, ◌/◌, Bool, not, ◌&&◌, ◌||◌, ◌==◌, nat_lt, Option, Some, None, List, [], ◌∷◌, ◌++◌, length, map, filter, set, if◌then◌else◌}
+use Rattle.std.specs.Prelude.{◌≡◌, ℕ, ◌-◌, ◌/◌, Bool, not, ◌&&◌, ◌||◌, ◌==◌, nat_lt, Option, Some, None, List, [], ◌∷◌, ◌++◌, length, map, filter, set, if◌then◌else◌}
 use Rattle.std.specs.List.{filter_map, flat_map, list_any, range_with_len, slice_get, slice_index_or}
 use Rattle.std.specs.Option.{option_and_then}
 use Rattle.zac_arch.specs.Architecture.{Architecture, site_count, storage_count, left_trap, right_trap}
@@ -274,9 +274,3 @@ pub record IsPlanned (a : Architecture) (c : NativeCircuit) (program : List Inst
   pub plan : IsPlan a c homes stages.gates stages.pairs todo
   -- which AODs make the jobs, and when each instruction begins
   pub schedule : IsSchedule a homes todo program
-
--- How many pairs there are among ops.
-abbrev pub pairs_in : List Op → ℕ
-pairs_in [] = 0
-pairs_in (op.Two q r ∷ ops) = suc (pairs_in ops)
-pairs_in (other ∷ ops) = pairs_in ops

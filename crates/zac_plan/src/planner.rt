@@ -4,10 +4,11 @@ ghost use Rattle.std.specs.Prelude.{◌≡◌, ◌<◌, ◌≤◌, ◌↔◌, �
 ghost use Rattle.std.specs.List.{AllByRecursion};
 ghost use Rattle.zac_arch.specs.Architecture.{storage_count};
 ghost use Rattle.zac_arch.specs.declared.place.TrapId.{TrapId};
+ghost use Rattle.zac_gates.specs.Ops.{pairs_in};
 ghost use Rattle.zac_place.specs.Homes.{AreApartInStorage};
 ghost use Rattle.zac_plan.specs.Growth.{FitsOnEach, IsStagingOf};
 ghost use Rattle.zac_plan.specs.Leading.{LeadOn};
-ghost use Rattle.zac_plan.specs.Plan.{IsPlan, IsPlanned, pairs_in};
+ghost use Rattle.zac_plan.specs.Plan.{IsPlan, IsPlanned};
 ghost use Rattle.zac_sched.specs.Exchange.{IsTidyProgram, OrdersAgree};
 ghost use Rattle.zac_sched.specs.Todos.{steps_in_all};
 ghost use Rattle.zair_form.specs.Ranges.{ProgramFits};

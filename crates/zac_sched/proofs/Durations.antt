@@ -10,7 +10,7 @@ use Rattle.zair_form.specs.declared.step.Step.{Step}
 use Rattle.zair_form.specs.declared.step.Step.TheVariants.{Activate, Move, Deactivate, One, Pulse, Readout}
 use Rattle.zair_form.specs.Steps.{steps_of}
 use Rattle.zair_form.specs.Times.{Timed, IsTimed, AreTimed, AreTimedSteps, HasLength, Lasts, LastTogether, rows_set, columns_set, greatest_change}
-use Rattle.zair_state.specs.Chain.{GoesSomewhere, EachGoesSomewhere, MovesGoSomewhere}
+use Rattle.zair_state.specs.Moves.{GoesSomewhere, EachGoesSomewhere, MovesGoSomewhere}
 use Rattle.zac_sched.proofs.Later.{all_append}
 
 -- the timed steps of an instruction

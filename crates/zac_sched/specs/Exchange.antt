@@ -13,7 +13,7 @@ use Rattle.zair_form.specs.declared.program.Act.{Act}
 use Rattle.zair_form.specs.declared.program.Act.TheVariants.{Init, Gates, Rydberg, Job, Readout}
 use Rattle.zair_form.specs.declared.program.Instr.{Instr}
 use Rattle.zair_form.specs.declared.step.Step.{Step}
-use Rattle.zair_state.specs.Chain.{MovesGoSomewhere}
+use Rattle.zair_state.specs.Moves.{MovesGoSomewhere}
 use Rattle.zair_state.specs.Homes.{AreHomes}
 use Rattle.zair_state.specs.Legal.{IsLegal}
 use Rattle.zair_state.specs.Orders.{IsAllowed}

@@ -7,8 +7,8 @@ use Rattle.zair_form.specs.declared.program.Instr.{Instr}
 use Rattle.zair_form.specs.Steps.{steps_of}
 use Rattle.zair_form.specs.Times.{Timed, AreTimed, AreTimedSteps}
 use Rattle.zair_state.specs.Orders.{IsNamedBefore, IsNamedOrder, IsOrderOf}
-use Rattle.zair_state.proofs.Chaining.{EachLater, each_later_from_AllPairs}
-use Rattle.zair_state.proofs.ChainSteps.{Lasts-same}
+use Rattle.zair_state.proofs.Ordering.{EachLater, each_later_from_AllPairs}
+use Rattle.zair_state.proofs.OneDuration.{Lasts-same}
 use Rattle.zair_state.proofs.Membership.{contains_none, contains_here, contains_later, contains_cases}
 
 -- timed steps of the same steps are the same

@@ -11,8 +11,7 @@ use Rattle.zair_form.specs.declared.program.Instr.{Instr}
 use Rattle.zair_form.specs.Steps.{steps_of}
 use Rattle.zair_form.specs.Times.{Timed, AreTimed, AreTimedSteps}
 use Rattle.zair_state.specs.Orders.{IsOrderOf, IsNamedBefore}
-use Rattle.zair_state.proofs.Chaining.{EachLater, AllPairs-from_each_later}
-use Rattle.zair_state.proofs.ChainOrder.{all_of_order}
+use Rattle.zair_state.proofs.Ordering.{EachLater, AllPairs-from_each_later, all_of_order}
 use Rattle.zair_state.proofs.Membership.{contains_none, contains_here, contains_later, contains_cases}
 use Rattle.zac_watch.specs.declared.slot.Slot.{Slot}
 use Rattle.zac_watch.specs.Named.{AreInNamedOrder, places_in}

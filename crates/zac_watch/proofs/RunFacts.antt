@@ -21,7 +21,7 @@ use Rattle.zair_state.specs.Performs.{steps_in}
 use Rattle.zair_state.specs.Result.{after}
 use Rattle.zair_state.specs.Run.{IsLegalRun, after_all}
 use Rattle.zair_state.specs.State.{State, opening}
-use Rattle.zair_state.proofs.ChainOrder.{all_of_order}
+use Rattle.zair_state.proofs.Ordering.{all_of_order}
 use Rattle.zac_watch.specs.Named.{places_in}
 
 -- what a law says of the card: a legal step breaks no condition

@@ -8,7 +8,7 @@ use Rattle.zair_form.specs.declared.step.Step.TheVariants.{One}
 use Rattle.zair_form.specs.declared.program.Instr.{Instr}
 use Rattle.zair_form.specs.Steps.{steps_of}
 use Rattle.zair_form.specs.Times.{Timed, AreTimed, AreTimedSteps, Lasts, LastTogether}
-use Rattle.zair_state.proofs.ChainSteps.{Lasts-same}
+use Rattle.zair_state.proofs.OneDuration.{Lasts-same}
 use Rattle.zac_watch.specs.declared.slot.Slot.{Slot}
 use Rattle.zac_watch.specs.Slots.{slot_of, WereAdded, AreSlotsOf}
 

@@ -15,12 +15,6 @@ pub mod SoundMove
 pub mod SoundActivate
 pub mod SoundDeactivate
 pub mod Soundness
-pub mod Chaining
-pub mod ChainSteps
-pub mod ChainOrder
-pub mod ChainNamed
-pub mod ChainTimes
-pub mod ChainPerforms
 pub mod NothingBroken
 pub mod Deciding
 pub mod MadeLegal
@@ -30,3 +24,6 @@ pub mod Picking
 pub mod Pairs
 pub mod Atoms
 pub mod Resting
+pub mod Ordering
+pub mod OneDuration
+pub mod PulsePairs

@@ -12,4 +12,4 @@ pub mod Examples
 pub mod Parking
 pub mod Homes
 pub mod Performs
-pub mod Chain
+pub mod Moves

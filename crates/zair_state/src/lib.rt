@@ -17,4 +17,4 @@ pub use laws::{
     legal_steps_keep_states_sound, moves_keep_the_gap, openings_are_sound,
 };
 pub use place::Place;
-pub use runs::{chains_end_last, pulses_find_their_pairs, safe_chains_perform};
+pub use runs::pulses_find_their_pairs;

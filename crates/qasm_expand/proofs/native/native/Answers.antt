@@ -5,7 +5,7 @@ use Rattle.zac_gates.specs.declared.circuit.Op.{Op}
 use Rattle.qasm_names.specs.Environment.{environment}
 use Rattle.qasm_expand.specs.Expansion.{IsExpansion, top_calls}
 use Rattle.qasm_expand.specs.Limits.{passed_before_calls}
-use Rattle.qasm_expand.specs.Native.{pairs_in}
+use Rattle.zac_gates.specs.Ops.{pairs_in}
 use Rattle.qasm_expand.proofs.NativeLemmas.{limit_tells, circuit_is, walked_expansion, expansion_is_valid, never_refused}
 use Rattle.qasm_expand.proofs.ProgramLemmas.{walk_few}
 use Rattle.qasm_expand.proofs.ReadyLemmas.{header_bare, short_gates}
