@@ -3,6 +3,7 @@
 use std::alloc::Global;
 use std::process::Abort;
 use zac_arch::{Card, Point, TrapId, Zone, ZoneKind};
+use zac_flags::Flags;
 use zac_place::{return_targets, returns};
 use zac_world::World;
 
@@ -101,11 +102,13 @@ fn the_nearest_free_trap_is_neither_taken_nor_marked(rt: HostRuntime) {
     };
     // The empty traps 1, 3 and 5 are all 30 away.
     let from = Point { x: 30, y: 30 };
-    match world.nearest_free(from, &[]) {
+    let mut marks = Flags::none(rt.alloc(), 2).expect(&rt, "memory");
+    match world.nearest_free(from, &marks) {
         Some(free) => assert!(rt; free.trap == TrapId(1) && free.distance == 30),
         None => panic!(&rt; "no trap"),
     }
-    match world.nearest_free(from, &[false, true]) {
+    marks.set(1);
+    match world.nearest_free(from, &marks) {
         Some(free) => assert!(rt; free.trap == TrapId(3) && free.distance == 30),
         None => panic!(&rt; "no trap"),
     }

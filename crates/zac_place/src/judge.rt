@@ -14,6 +14,7 @@ use crate::offsets::{apart, point_of};
 use crate::proposal::Proposal;
 use std::alloc::Global;
 use zac_arch::{Card, Point, TrapId};
+use zac_flags::Flags;
 use zac_memory::Memory;
 use zac_world::{Candidate, World};
 
@@ -43,20 +44,20 @@ fn marks_of(
     card: &Card,
     world: &World<'_>,
     targets: &[u32],
-) -> Result<Option<Vec<bool>>, Memory>
+) -> Result<Option<Flags>, Memory>
     requires card { world.now.architecture ≡ card.now }
-    ensures { IfOk result (λ some. IfSome some (λ marks. AreMarked world.now targets.now marks.items)) }
+    ensures { IfOk result (λ some. IfSome some (λ marks. AreMarked world.now targets.now marks)) }
 {
     let traps = card.storage_traps();
-    let mut marks = vec![in alloc; false; traps as usize]?;
+    let mut marks = Flags::none(alloc, traps as usize)?;
     for target in targets {
-        if traps <= *target || marks[*target as usize] {
+        if traps <= *target || marks.is_set(*target) {
             return Ok(None);
         }
         if world.atom_at(TrapId(*target)).is_some() {
             return Ok(None);
         }
-        marks[*target as usize] = true;
+        marks.set(*target);
     }
     Ok(Some(marks))
 }
@@ -65,7 +66,7 @@ fn marks_of(
 fn row_of(
     card: &Card,
     world: &World<'_>,
-    marks: &[bool],
+    marks: &Flags,
     q: u32,
     target: TrapId,
     price: i64,
@@ -100,7 +101,7 @@ fn rows_of(
     alloc: Global,
     card: &Card,
     world: &World<'_>,
-    marks: &[bool],
+    marks: &Flags,
     leaving: &[u32],
     proposal: &Proposal,
 ) -> Result<Option<Vec<Row>>, Memory>
@@ -228,7 +229,7 @@ pub(crate) fn is_proved(
     let Some(marks) = marks_of(alloc, card, world, proposal.targets.as_slice())? else {
         return Ok(false);
     };
-    let Some(rows) = rows_of(alloc, card, world, marks.as_slice(), leaving, proposal)? else {
+    let Some(rows) = rows_of(alloc, card, world, &marks, leaving, proposal)? else {
         return Ok(false);
     };
     Ok(are_judged(rows.as_slice()))

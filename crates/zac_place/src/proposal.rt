@@ -11,6 +11,7 @@ use crate::solver::{Market, Solved, Unsolved, solve};
 use std::alloc::{AllocError, Global};
 use std::collections::BTreeMap;
 use zac_arch::{Card, Point, TrapId, ZoneKind, laws_of_traps};
+use zac_flags::Flags;
 use zac_memory::Memory;
 use zac_world::World;
 
@@ -73,7 +74,7 @@ struct StorageMarket<'a> {
     card: &'a Card,
     world: &'a World<'a>,
     /// Which storage traps are taken.
-    taken: Vec<bool>,
+    taken: Flags,
     /// The places of the classes of atoms: points of the storage's box.
     places: Vec<Point>,
     /// All of them have one y, so that the traps of a column of the card are one class.
@@ -96,22 +97,19 @@ impl Market for StorageMarket<'_> {
         if place.x > 1_000_000 || place.y > 1_000_000 {
             return None;
         }
-        let found = self.world.nearest_free(*place, self.taken.as_slice())?;
+        let found = self.world.nearest_free(*place, &self.taken)?;
         Some((i32::try_from(found.distance).ok()?, found.trap.0))
     }
 
     fn is_free(&self, column: u32) -> bool {
-        match self.taken.get(column as usize) {
-            Some(taken) => !*taken,
-            None => false,
-        }
+        (column as usize) < self.taken.count() && !self.taken.is_set(column)
     }
 
     fn take(&mut self, column: u32) -> Result<usize, Unsolved> {
-        if column >= self.card.storage_traps() {
+        if column >= self.card.storage_traps() || column as usize >= self.taken.count() {
             return Err(Unsolved::GaveUp);
         }
-        *self.taken.get_mut(column as usize).ok_or(Unsolved::GaveUp)? = true;
+        self.taken.set(column);
         laws_of_traps(self.card);
         let point = point_of(self.card, TrapId(column));
         let key = if self.level { point.x } else { column };
@@ -220,7 +218,7 @@ fn solved_returns(
     let mut market = StorageMarket {
         card,
         world,
-        taken: vec![in alloc; false; card.storage_traps() as usize]?,
+        taken: Flags::none(alloc, card.storage_traps() as usize)?,
         places: points,
         level,
         classes: BTreeMap::new(alloc),

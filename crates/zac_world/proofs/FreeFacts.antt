@@ -11,10 +11,12 @@ use Rattle.zac_arch.specs.Architecture.{storage_count}
 use Rattle.zac_arch.specs.Distances.{difference}
 use Rattle.zac_arch.specs.declared.place.Point.{Point}
 use Rattle.zac_world.specs.Blocks.{AreBlocks, IsBlock, block_distance, size_of}
-use Rattle.zac_world.specs.Free.{AreNoBetter, HasLimits, IsFound, is_free, rank, rank_of}
+use Rattle.zac_world.specs.Free.{AreNoBetter, HasLimits, IsFirst, IsFirstFree, IsFound, IsOn, is_free, rank, rank_of}
 use Rattle.zac_world.specs.Nearest.{IsFree, IsNearestFree, distance_from}
 use Rattle.zac_world.specs.Places.{Places, is_empty}
 use Rattle.zac_world.specs.declared.block.Block.{Block}
+use Rattle.zac_world.specs.declared.free.Side.{Side}
+use Rattle.zac_world.specs.declared.free.Side.TheVariants.{Left, Right}
 use Rattle.zac_world.specs.declared.walk.Candidate.{Candidate}
 use Rattle.zac_world.proofs.ListFacts.{contains_filtered, contains_from_filter}
 use Rattle.zac_world.proofs.NearestFacts.{in_blocks}
@@ -63,56 +65,37 @@ found_one p marks from best result c old new one =
       | inr other ↦ subst (λ (o : Option Candidate). IfSome o (IsFound p marks from)) (sym other) new
     ]
 
--- a test that fails on a part of the numbers, in other words
-pub shifted : (q : ℕ → Bool) (first begin i : ℕ) → begin ≤ i → q ((first + begin) + (i - begin)) ≡ false → q (first + i) ≡ false
-shifted q first begin i le fails =
-    let e : (first + begin) + (i - begin) ≡ first + i = omega arith in
-    subst (λ (t : ℕ). q t ≡ false) e fails
-
 pub not_both : {P : Type 0} (b : Bool) → b ≡ true → b ≡ false → P
 not_both b holds fails = absurd (let both : true ≡ false = sym holds ∙ fails in cc)
 
--- the columns up to the last free one on the left
-pub left_columns : (p : Places) (marks : List Bool) (from : Point) (b : Block) (row begin end k best : ℕ) → IsBlock p.architecture b → row < b.zone.rows → end ≤ b.zone.columns → begin ≤ end →
-    ((i : ℕ) → begin ≤ i → i < end → b.zone.x + i * b.zone.dx ≤ from.x) → k < end - begin →
-    ((m : ℕ) → k < m → m < end - begin → is_free p marks (((b.first + row * b.zone.columns) + begin) + m) ≡ false) →
-    best ≤ block_distance b row (begin + k) from * 65536 + ((b.first + row * b.zone.columns) + (begin + k)) →
+-- the columns on one side of the point are no better than the first free one of them on the way outward
+pub columns_done : (p : Places) (marks : List Bool) (from : Point) (b : Block) (row begin end t best : ℕ) (side : Side) → IsBlock p.architecture b → row < b.zone.rows → end ≤ b.zone.columns →
+    ((i : ℕ) → begin ≤ i → i < end → IsOn side b from i) → IsFirstFree p marks side ((b.first + row * b.zone.columns) + begin) ((b.first + row * b.zone.columns) + end) t →
+    best ≤ block_distance b row (t - (b.first + row * b.zone.columns)) from * 65536 + t →
     (i : ℕ) → begin ≤ i → i < end → is_free p marks ((b.first + row * b.zone.columns) + i) ≡ true → best ≤ rank p from ((b.first + row * b.zone.columns) + i)
-left_columns p marks from b row begin end k best block row_in end_in ordered left k_in none here i ge lt free =
+columns_done p marks from b row begin end t best Left block row_in end_in on found here i ge lt free =
     let first = b.first + row * b.zone.columns in
-    elim (cases_lt (begin + k) i) as (λ _. best ≤ rank p from (first + i)) [
-      | inl more ↦ not_both (is_free p marks (first + i)) free (shifted (is_free p marks) first begin i ge (none (i - begin) (omega arith) (omega arith)))
-      | inr le ↦
-          omega (
-            arith,
-            here,
-            rank_at p from b row i block row_in (omega arith),
-            left_farther from.x b.zone.x b.zone.dx i (begin + k) (difference from.y (b.zone.y + row * b.zone.dy)) first block.field.columns_rise le (left (begin + k) (omega arith) (omega arith)) (omega (arith, in_row b row (begin + k) row_in (omega arith), block.few)),
-          )
-    ]
-
--- and from the first free one on the right
-pub right_columns : (p : Places) (marks : List Bool) (from : Point) (b : Block) (row begin end k best : ℕ) → IsBlock p.architecture b → row < b.zone.rows → end ≤ b.zone.columns → begin ≤ end →
-    ((i : ℕ) → begin ≤ i → i < end → from.x ≤ b.zone.x + i * b.zone.dx) → k < end - begin →
-    ((m : ℕ) → m < k → is_free p marks (((b.first + row * b.zone.columns) + begin) + m) ≡ false) →
-    best ≤ block_distance b row (begin + k) from * 65536 + ((b.first + row * b.zone.columns) + (begin + k)) →
-    (i : ℕ) → begin ≤ i → i < end → is_free p marks ((b.first + row * b.zone.columns) + i) ≡ true → best ≤ rank p from ((b.first + row * b.zone.columns) + i)
-right_columns p marks from b row begin end k best block row_in end_in ordered right k_in none here i ge lt free =
+    let k = t - first in
+    let after : first + i ≤ t = found.first (first + i) (omega arith) (omega arith) free in
+    let k_in : k < end = omega (arith, found.from_begin, found.before_end) in
+    omega (
+      arith,
+      here,
+      rank_at p from b row i block row_in (omega arith),
+      left_farther from.x b.zone.x b.zone.dx i k (difference from.y (b.zone.y + row * b.zone.dy)) first block.field.columns_rise (omega arith) (on k (omega arith) k_in) (omega (arith, in_row b row k row_in (omega arith), block.few)),
+    )
+columns_done p marks from b row begin end t best Right block row_in end_in on found here i ge lt free =
     let first = b.first + row * b.zone.columns in
-    elim (cases_lt i (begin + k)) as (λ _. best ≤ rank p from (first + i)) [
-      | inl less ↦ not_both (is_free p marks (first + i)) free (shifted (is_free p marks) first begin i ge (none (i - begin) (omega arith)))
-      | inr le ↦
-          omega (
-            arith,
-            here,
-            rank_at p from b row i block row_in (omega arith),
-            right_farther from.x b.zone.x b.zone.dx i (begin + k) (difference from.y (b.zone.y + row * b.zone.dy)) first le (right (begin + k) (omega arith) (omega arith)),
-          )
-    ]
-
--- none of the columns is free
-pub no_columns : (p : Places) (marks : List Bool) (first begin end : ℕ) → ((m : ℕ) → m < end - begin → is_free p marks ((first + begin) + m) ≡ false) → (i : ℕ) → begin ≤ i → i < end → is_free p marks (first + i) ≡ false
-no_columns p marks first begin end none i ge lt = shifted (is_free p marks) first begin i ge (none (i - begin) (omega arith))
+    let k = t - first in
+    let before : t ≤ first + i = found.first (first + i) (omega arith) (omega arith) free in
+    let k_ge : begin ≤ k = omega (arith, found.from_begin) in
+    omega (
+      arith,
+      here,
+      found.from_begin,
+      rank_at p from b row i block row_in (omega arith),
+      right_farther from.x b.zone.x b.zone.dx i k (difference from.y (b.zone.y + row * b.zone.dy)) first (omega arith) (on k k_ge (omega arith)),
+    )
 
 -- ---- rows of a block
 

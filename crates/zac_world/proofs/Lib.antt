@@ -7,4 +7,4 @@ pub mod ListFacts
 mod NearestFacts
 mod FreeFacts
 pub mod RankFacts
-mod ChunkFacts
+mod TakenFacts

@@ -5,11 +5,31 @@ use Rattle.zac_arch.specs.Architecture.{storage_count}
 use Rattle.zac_arch.specs.declared.place.Point.{Point}
 use Rattle.zac_world.specs.Nearest.{distance_from}
 use Rattle.zac_world.specs.Places.{Places, is_empty}
+use Rattle.zac_world.specs.declared.block.Block.{Block}
+use Rattle.zac_world.specs.declared.free.Side.{Side}
+use Rattle.zac_world.specs.declared.free.Side.TheVariants.{Left, Right}
 use Rattle.zac_world.specs.declared.walk.Candidate.{Candidate}
 
 -- the trap is empty, and isn't marked
 abbrev pub is_free : Places → List Bool → ℕ → Bool
 is_free p marks t = is_empty p.traps t && not (slice_index_or marks t false)
+
+-- the column is on that side of the point, or has its x
+abbrev pub IsOn : Side → Block → Point → ℕ → Type 0
+IsOn Left b from column = b.zone.x + column * b.zone.dx ≤ from.x
+IsOn Right b from column = from.x ≤ b.zone.x + column * b.zone.dx
+
+-- on the way outward from the point on that side the other number doesn't come before t
+abbrev pub IsFirst : Side → ℕ → ℕ → Type 0
+IsFirst Left t other = other ≤ t
+IsFirst Right t other = t ≤ other
+
+-- of the traps from begin to before end it is the free one that comes first on the way outward
+pub record IsFirstFree (p : Places) (marks : List Bool) (side : Side) (begin end t : ℕ) : Type 0 where
+  pub from_begin : begin ≤ t
+  pub before_end : t < end
+  pub free : is_free p marks t ≡ true
+  pub first : (other : ℕ) → begin ≤ other → other < end → is_free p marks other ≡ true → IsFirst side t other
 
 -- the order by distance and then number, as one number
 abbrev pub rank : Places → Point → ℕ → ℕ

@@ -4,111 +4,37 @@ ghost use Rattle.std.specs.Prelude.{◌≡◌, ℕ, ◌+◌, ◌*◌, ◌-◌, �
 ghost use Rattle.std.specs.List.{slice_index_or};
 ghost use Rattle.zac_arch.specs.Architecture.{storage_count};
 ghost use Rattle.zac_world.specs.Blocks.{AreBlocks, FitsField, IsBlock, block_distance, size_of};
-ghost use Rattle.zac_world.specs.Free.{AreNoBetter, HasLimits, IsFound, IsNoWorse, is_free, rank, rank_of};
+ghost use Rattle.zac_world.specs.Free.{AreNoBetter, HasLimits, IsFirstFree, IsFound, IsNoWorse, IsOn, is_free, rank, rank_of};
 ghost use Rattle.zac_world.specs.Nearest.{IsFree, IsNearestFree};
 
 use crate::block::Block;
-use crate::chunk::CHUNK;
 use crate::span::{count_below, within_reach};
 use crate::walk::Candidate;
 use crate::world::World;
 use zac_arch::{Point, TrapId};
+use zac_flags::Flags;
 
 /// No trap is farther from a point of the field, in tenths of a micrometre.
 const FIELD: u32 = 2_000_000;
 
-/// Whether a storage trap is empty and isn't marked.
-fn is_free(world: &World, marks: &[bool], t: u32) -> bool
-    requires { t < storage_count world.now.architecture }
-    ensures { result ≡ is_free world.now marks.now t }
-{
-    world.atom_at(TrapId(t)).is_none() && !marks.get(t as usize).copied().unwrap_or(false)
+/// On which side of a point a trap of a row stands.
+#[derive(Clone, Copy)]
+pub(crate) enum Side {
+    /// At its left, or at the point.
+    Left,
+    /// At its right, or at the point.
+    Right,
 }
 
-/// The first free one of so many traps of one chunk from a number on, counted from there.
-fn first_in_chunk(world: &World, marks: &[bool], first: u32, count: u32) -> Option<u32>
-    requires storage { first + count ≤ storage_count world.now.architecture }
-    requires few { first + count ≤ 65536 }
-    requires some { 0 < count }
-    requires one_chunk { first + count ≤ (first / 8 + 1) * 8 }
-    ensures { MatchOption result
-        ((i : ℕ) → i < count → is_free world.now marks.now (first + i) ≡ false)
-        (λ k. (k < count) × (is_free world.now marks.now (first + k) ≡ true)
-        × ((i : ℕ) → i < k → is_free world.now marks.now (first + i) ≡ false)) }
-{
-    if world.is_full(first / CHUNK) {
-        return None;
-    }
-    for i in 0..count {
-        if is_free(world, marks, first + i) {
-            return Some(i);
-        }
-    }
-    None
-}
-
-/// The first free one of so many traps from a number on, counted from there.
-fn first_free(world: &World, marks: &[bool], first: u32, count: u32) -> Option<u32>
-    requires storage { first + count ≤ storage_count world.now.architecture }
-    requires few { first + count ≤ 65536 }
-    ensures { MatchOption result
-        ((i : ℕ) → i < count → is_free world.now marks.now (first + i) ≡ false)
-        (λ k. (k < count) × (is_free world.now marks.now (first + k) ≡ true)
-        × ((i : ℕ) → i < k → is_free world.now marks.now (first + i) ≡ false)) }
-{
-    let end = first + count;
-    let mut begin = first;
-    while begin < end {
-        let next = end.min((begin / CHUNK + 1) * CHUNK);
-        if let Some(k) = first_in_chunk(world, marks, begin, next - begin) {
-            return Some(begin - first + k);
-        }
-        begin = next;
-    }
-    None
-}
-
-/// The last free one of so many traps of one chunk from a number on, counted from there.
-fn last_in_chunk(world: &World, marks: &[bool], first: u32, count: u32) -> Option<u32>
-    requires storage { first + count ≤ storage_count world.now.architecture }
-    requires few { first + count ≤ 65536 }
-    requires some { 0 < count }
-    requires one_chunk { first + count ≤ (first / 8 + 1) * 8 }
-    ensures { MatchOption result
-        ((i : ℕ) → i < count → is_free world.now marks.now (first + i) ≡ false)
-        (λ k. (k < count) × (is_free world.now marks.now (first + k) ≡ true)
-        × ((i : ℕ) → k < i → i < count → is_free world.now marks.now (first + i) ≡ false)) }
-{
-    if world.is_full(first / CHUNK) {
-        return None;
-    }
-    for back in 0..count {
-        let i = count - 1 - back;
-        if is_free(world, marks, first + i) {
-            return Some(i);
-        }
-    }
-    None
-}
-
-/// The last free one of so many traps from a number on, counted from there.
-fn last_free(world: &World, marks: &[bool], first: u32, count: u32) -> Option<u32>
-    requires storage { first + count ≤ storage_count world.now.architecture }
-    requires few { first + count ≤ 65536 }
-    ensures { MatchOption result
-        ((i : ℕ) → i < count → is_free world.now marks.now (first + i) ≡ false)
-        (λ k. (k < count) × (is_free world.now marks.now (first + k) ≡ true)
-        × ((i : ℕ) → k < i → i < count → is_free world.now marks.now (first + i) ≡ false)) }
-{
-    let mut end = first + count;
-    while first < end {
-        let begin = first.max((end - 1) / CHUNK * CHUNK);
-        if let Some(k) = last_in_chunk(world, marks, begin, end - begin) {
-            return Some(begin - first + k);
-        }
-        end = begin;
-    }
-    None
+/// Some columns of a row, all on one side of a point.
+#[derive(Clone, Copy)]
+pub(crate) struct Columns {
+    /// The first one.
+    pub begin: u32,
+    /// The one after the last one.
+    pub end: u32,
+    /// Their side.
+    pub side: Side,
 }
 
 /// The trap at a row and a column of a block, with its distance.
@@ -163,64 +89,37 @@ fn reach_of(best: Option<Candidate>) -> u32
     }
 }
 
-/// The best of what was found and of some columns of a row, which stand at the point's left.
-fn search_left(
+/// The best of what was found and of some columns of a row.
+fn search_columns(
     world: &World,
-    marks: &[bool],
+    marks: &Flags,
     from: Point,
     block: Block,
     row: u32,
-    columns: (u32, u32),
+    columns: Columns,
     best: Option<Candidate>,
 ) -> Option<Candidate>
     requires x_most { from.x ≤ 1000000 }
     requires y_most { from.y ≤ 1000000 }
     requires block { IsBlock world.now.architecture block }
     requires row_in { row < block.zone.rows }
-    requires columns_in { columns.1 ≤ block.zone.columns }
-    requires in_order { columns.0 ≤ columns.1 }
-    requires left { (i : ℕ) → columns.0 ≤ i → i < columns.1 → block.zone.x + i * block.zone.dx ≤ from.x }
+    requires columns_in { columns.end ≤ block.zone.columns }
+    requires in_order { columns.begin ≤ columns.end }
+    requires side { (i : ℕ) → columns.begin ≤ i → i < columns.end → IsOn columns.side block from i }
     requires found { IfSome best (IsFound world.now marks.now from) }
     ensures no_worse { IsNoWorse world.now marks.now from best result }
-    ensures columns { (i : ℕ) → columns.0 ≤ i → i < columns.1
+    ensures columns { (i : ℕ) → columns.begin ≤ i → i < columns.end
         → is_free world.now marks.now ((block.first + row * block.zone.columns) + i) ≡ true
         → rank_of result ≤ rank world.now from ((block.first + row * block.zone.columns) + i) }
 {
-    let (begin, end) = columns;
     let first = block.first + row * block.zone.columns;
-    match last_free(world, marks, first + begin, end - begin) {
-        Some(k) => nearer(best, candidate_at(block, row, begin + k, from)),
-        None => best,
-    }
-}
-
-/// The best of what was found and of some columns of a row, which stand at the point's right or at it.
-fn search_right(
-    world: &World,
-    marks: &[bool],
-    from: Point,
-    block: Block,
-    row: u32,
-    columns: (u32, u32),
-    best: Option<Candidate>,
-) -> Option<Candidate>
-    requires x_most { from.x ≤ 1000000 }
-    requires y_most { from.y ≤ 1000000 }
-    requires block { IsBlock world.now.architecture block }
-    requires row_in { row < block.zone.rows }
-    requires columns_in { columns.1 ≤ block.zone.columns }
-    requires in_order { columns.0 ≤ columns.1 }
-    requires right { (i : ℕ) → columns.0 ≤ i → i < columns.1 → from.x ≤ block.zone.x + i * block.zone.dx }
-    requires found { IfSome best (IsFound world.now marks.now from) }
-    ensures no_worse { IsNoWorse world.now marks.now from best result }
-    ensures columns { (i : ℕ) → columns.0 ≤ i → i < columns.1
-        → is_free world.now marks.now ((block.first + row * block.zone.columns) + i) ≡ true
-        → rank_of result ≤ rank world.now from ((block.first + row * block.zone.columns) + i) }
-{
-    let (begin, end) = columns;
-    let first = block.first + row * block.zone.columns;
-    match first_free(world, marks, first + begin, end - begin) {
-        Some(k) => nearer(best, candidate_at(block, row, begin + k, from)),
+    match world.first_free(
+        marks,
+        first + columns.begin,
+        first + columns.end,
+        columns.side,
+    ) {
+        Some(t) => nearer(best, candidate_at(block, row, t - first, from)),
         None => best,
     }
 }
@@ -229,7 +128,7 @@ fn search_right(
 /// point no more than up to the first free trap.
 fn search_row(
     world: &World,
-    marks: &[bool],
+    marks: &Flags,
     from: Point,
     block: Block,
     row: u32,
@@ -255,8 +154,18 @@ fn search_row(
     let (begin, end) = within_reach(zone.x, zone.dx, zone.columns, from.x, reach - up);
     let below = count_below(zone.x, zone.dx, zone.columns, from.x);
     let middle = below.max(begin).min(end);
-    let best = search_left(world, marks, from, block, row, (begin, middle), best);
-    search_right(world, marks, from, block, row, (middle, end), best)
+    let left = Columns {
+        begin,
+        end: middle,
+        side: Side::Left,
+    };
+    let right = Columns {
+        begin: middle,
+        end,
+        side: Side::Right,
+    };
+    let best = search_columns(world, marks, from, block, row, left, best);
+    search_columns(world, marks, from, block, row, right, best)
 }
 
 /// The row that is so many rows below the middle; one past the last row where there is none.
@@ -274,7 +183,7 @@ fn row_below(middle: u32, step: u32, rows: u32) -> u32
 /// The best of what was found and of a block. Its rows are searched from the point outward, as long as they may be better.
 fn search_block(
     world: &World,
-    marks: &[bool],
+    marks: &Flags,
     from: Point,
     block: Block,
     best: Option<Candidate>,
@@ -307,7 +216,7 @@ fn search_block(
 }
 
 /// The best of some blocks.
-fn search(world: &World, marks: &[bool], from: Point, blocks: &[Block]) -> Option<Candidate>
+fn search(world: &World, marks: &Flags, from: Point, blocks: &[Block]) -> Option<Candidate>
     requires x_most { from.x ≤ 1000000 }
     requires y_most { from.y ≤ 1000000 }
     requires blocks { AreBlocks world.now.architecture blocks.now }
@@ -322,13 +231,27 @@ fn search(world: &World, marks: &[bool], from: Point, blocks: &[Block]) -> Optio
 }
 
 impl<'a> World<'a> {
+    /// Of the traps from `begin` to before `end` the free one that comes first on the way outward from a point, on one
+    /// side of which they all stand: the last one at its left, the first one at its right. None exactly where there is
+    /// none.
+    pub(crate) fn first_free(&self, marks: &Flags, begin: u32, end: u32, side: Side) -> Option<u32>
+        ensures { MatchOption result
+            ((t : ℕ) → begin ≤ t → t < end → is_free self.now marks.now t ≡ false)
+            (IsFirstFree self.now marks.now side begin end) }
+    {
+        match side {
+            Side::Left => self.taken.last_unset(marks, begin, end),
+            Side::Right => self.taken.first_unset(marks, begin, end),
+        }
+    }
+
     /// Of the empty storage traps that aren't marked the one that is nearest to a point of the field, by distance
     /// `|dx| + |dy|` and then number; none exactly where there is none. Marks stand by trap number; a trap past their end
     /// isn't marked. It takes no memory.
     ///
-    /// The work is in the rows that are no farther than the answer, in each in the chunks up to the first free trap: one
-    /// look at a chunk that has no empty trap, and one at each trap of another one.
-    pub fn nearest_free(&self, from: Point, marks: &[bool]) -> Option<Candidate>
+    /// The work is in the rows that are no farther than the answer, in each in the traps up to the first free one on
+    /// either side: one look at 64 of them that follow each other by number.
+    pub fn nearest_free(&self, from: Point, marks: &Flags) -> Option<Candidate>
         requires x_most { from.x ≤ 1000000 }
         requires y_most { from.y ≤ 1000000 }
         ensures { MatchOption result

@@ -2,7 +2,6 @@
 #![tactic(auto)]
 
 mod block;
-mod chunk;
 mod free;
 mod nearest;
 mod span;

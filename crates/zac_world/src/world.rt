@@ -5,12 +5,13 @@ ghost use Rattle.std.specs.List.{slice_get, All, AllPairs};
 ghost use Rattle.zac_arch.specs.Architecture.{trap_count};
 ghost use Rattle.zac_pairing.specs.Pairing.{mate};
 ghost use Rattle.zac_world.specs.Places.{is_empty, empty_storage, traps_of};
+ghost use Rattle.zac_world.specs.Worlds.{cleared};
 
 use crate::block::{Block, blocks_of};
-use crate::chunk::{CHUNK, clear_chunk, full_chunks, is_chunk_full};
 use std::alloc::Global;
 use std::marker::Model;
 use zac_arch::{Card, TrapId};
+use zac_flags::Flags;
 use zac_gates::List;
 use zac_memory::Memory;
 use zac_pairing::Pairing;
@@ -22,8 +23,8 @@ pub struct World<'a> {
     pairing: Pairing,
     /// The storage zones of the card.
     pub(crate) blocks: Vec<Block>,
-    /// Which chunks of traps have no empty trap.
-    full: Vec<bool>,
+    /// In which traps of the card an atom rests.
+    pub(crate) taken: Flags,
 }
 
 impl<'a> Model for World<'a> {
@@ -34,7 +35,17 @@ impl<'a> Model for World<'a> {
 
     ghost view = { λ w. record { architecture = w.card.now; traps = traps_of w.pairing.left.items } };
 
-    ghost invariant = { λ w. IsKept w.card.now w.pairing.left.items w.pairing.right.items w.blocks.items w.full.items };
+    ghost invariant = { λ w. IsKept w.card.now w.pairing.left.items w.pairing.right.items w.blocks.items w.taken };
+}
+
+/// Clears the flag of a trap, if there is one.
+fn clear_flag(taken: &mut Flags, trap: Option<u32>)
+    requires { (t : ℕ) → trap ≡ Some t → t < length taken.old }
+    ensures { taken.new ≡ cleared taken.old trap }
+{
+    if let Some(t) = trap {
+        taken.clear(t);
+    }
 }
 
 impl<'a> World<'a> {
@@ -45,16 +56,18 @@ impl<'a> World<'a> {
         ensures { IfOk result (λ w. w ≡ record { architecture = card.now; traps = map (λ h. h.0) homes.now }) }
     {
         let blocks = blocks_of(alloc, card)?;
-        let mut pairing = Pairing::none(alloc, homes.len(), card.traps() as usize)?;
+        let traps = card.traps() as usize;
+        let mut pairing = Pairing::none(alloc, homes.len(), traps)?;
+        let mut taken = Flags::none(alloc, traps)?;
         for (q, home) in homes.iter().enumerate() {
             let _ = pairing.join(q as u32, home.0);
+            taken.set(home.0);
         }
-        let full = full_chunks(alloc, pairing.right.as_slice())?;
         Ok(World {
             card,
             pairing,
             blocks,
-            full,
+            taken,
         })
     }
 
@@ -76,15 +89,6 @@ impl<'a> World<'a> {
         self.pairing.right[t.0 as usize]
     }
 
-    /// Whether it is known that no trap of a chunk is empty.
-    pub(crate) fn is_full(&self, chunk: u32) -> bool
-        requires { chunk * 8 < trap_count self.now.architecture }
-        ensures { result ≡ true → (t : ℕ) → chunk * 8 ≤ t → t < chunk * 8 + 8 → t < trap_count self.now.architecture
-            → is_empty self.now.traps t ≡ false }
-    {
-        self.full[chunk as usize]
-    }
-
     /// Puts a qubit into an empty trap. The trap in which it was is empty from then on, and all else stays.
     pub fn put(&mut self, q: u32, t: TrapId)
         requires q_in { q < length self.old.traps }
@@ -93,9 +97,8 @@ impl<'a> World<'a> {
         ensures { self.new ≡ record { architecture = self.old.architecture; traps = slice_set self.old.traps q t.0 } }
     {
         let left = self.pairing.join(q, t.0);
-        clear_chunk(&mut self.full, left);
-        let chunk = t.0 / CHUNK;
-        self.full[chunk as usize] = is_chunk_full(self.pairing.right.as_slice(), chunk);
+        clear_flag(&mut self.taken, left);
+        self.taken.set(t.0);
     }
 
     /// The storage traps in which no atom rests, by rising number. The only error is that memory ran out.

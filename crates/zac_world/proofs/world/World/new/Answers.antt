@@ -1,17 +1,39 @@
-use Rattle.std.proofs.Common.{◌≡◌, ◌+◌, ◌<◌, ℕ, List, Option, Some, None, length, get_or, set, sym, ap, ◌∙◌, subst, arith}
-use Rattle.std.proofs.lemmas.List.{length-set}
+use Rattle.std.proofs.Common.{rules, true, Bool, is_some, map, ◌≡◌, ◌+◌, ◌<◌, ℕ, List, Option, Some, None, length, get_or, set, sym, ap, ◌∙◌, subst, arith}
+use Rattle.std.proofs.lemmas.List.{length-map, length-set, map-set}
 use Rattle.zac_arch.specs.declared.place.TrapId.{TrapId}
 use Rattle.zac_pairing.specs.Pairing.{mate, freed, free_count}
 use Rattle.zac_pairing.proofs.PairingFacts.{free_count-set_free}
 use Rattle.zac_world.specs.Places.{Places}
-use Rattle.zac_world.specs.Worlds.{AreFull}
 use Rattle.zac_world.proofs.PlacesFacts.{AreHomed, home_free, homed_more, traps_are_homes, placed_all}
+use Rattle.zac_world.proofs.TakenFacts.{none_taken}
 use Rattle.zac_world.proofs.world.World.new.Goals as goal
+use Rattle.zac_arch.specs.Architecture.{trap_count}
 
 pub join-requires-clause-free : goal.join-requires-clause-free
 join-requires-clause-free c =
     let p = c.loop-q.pairing in
     home_free c.args.homes.now p.left.items p.right.items c.loop-q.q _ c.requires.distinct p.pairing c.loop-q.invariant.homed c.loop-q-test.true
+
+pub set-requires : goal.set-requires
+set-requires c =
+    omega (arith, c.requires.in_range c.loop-q.q (record { 0 = 0 }) c.loop-q-test.true, ap (λ (l : List Bool). length l) c.loop-q.invariant.taken, length-map c.loop-q.pairing.right.items is_some, c.loop-q.invariant.right_len)
+
+pub loop-q-init : goal.loop-q-init
+loop-q-init c =
+    let p = c.in_ok-pairing.pairing in
+    let n = trap_count c.args.card.now in
+    let right_len : length p.right.items ≡ n = search rules in
+    let right_many : length p.right.items ≡ c.traps-traps.result = search rules in
+    record {
+      homed = record {
+        len = search rules;
+        placed = λ k d lt. absurd (omega arith);
+        later = λ k _. c.in_ok-pairing.ensures.alone k;
+      };
+      right_len = right_len;
+      taken = c.in_ok-taken.ensures ∙ none_taken p.left.items p.right.items c.traps-traps.result p.pairing c.in_ok-pairing.ensures.alone right_many;
+      free = search rules;
+    }
 
 pub loop-q-preserved : goal.loop-q-preserved
 loop-q-preserved c =
@@ -31,6 +53,7 @@ loop-q-preserved c =
       homed = subst (λ (l : List (Option ℕ)). AreHomed homes l (q + 1)) (sym c.join.ensures.left) (homed_more homes p.left.items q e homed c.loop-q-test.true);
       right_len = size ∙ c.loop-q.invariant.right_len;
       free = omega (arith, fewer, size, c.loop-q.invariant.free);
+      taken = c.set.ensures ∙ ap (λ (l : List Bool). set l home true) c.loop-q.invariant.taken ∙ sym (map-set is_some p.right.items home (Some q)) ∙ ap (map is_some) (sym right);
     }
 
 pub invariant_of-result : goal.invariant_of-result
@@ -38,7 +61,7 @@ invariant_of-result c =
     record {
       placed = placed_all c.args.card.now c.args.homes.now c.loop-q.pairing.left.items c.loop-q.pairing.right.items c.loop-q.q c.loop-q.invariant.homed (omega arith) c.loop-q.invariant.right_len;
       blocks_are = c.in_ok-blocks.ensures;
-      full_are = subst (λ (l : List (Option ℕ)). AreFull l c.in_ok-full.full.items) c.as_slice.ensures.value c.in_ok-full.ensures;
+      taken_are = c.loop-q.invariant.taken;
     }
 
 pub returns : goal.returns

@@ -1,0 +1,3 @@
+mod WordFacts
+pub mod FlagFacts
+mod UnsetFacts
