@@ -5,8 +5,8 @@ pub mod Shape
 pub mod Growing
 pub mod Steps
 pub mod OneText
-pub mod SmallNumbers
 pub mod Writable
 pub mod Counting
-pub mod Sending
+pub mod Adding
+pub mod Objects
 pub mod ReadingBack

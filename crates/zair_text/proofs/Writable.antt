@@ -4,10 +4,8 @@ use Rattle.std.specs.List.{list_all}
 use Rattle.std.proofs.lemmas.Bool.{and_parts}
 use Rattle.zair_form.specs.declared.program.Instr.{Instr}
 use Rattle.zair_form.specs.Steps.{has_own_steps}
-use Rattle.zair_text.specs.Lines.{ReadsBack}
-use Rattle.zair_text.specs.Ranges.{IsWritable, AreWritable}
+use Rattle.zair_text.specs.Ranges.{HasSmallNumbers, IsWritable, AreWritable}
 use Rattle.zair_text.specs.Values.{instr_value}
-use Rattle.zair_text.proofs.SmallNumbers.{read_small}
 
 own_at : (xs : List Instr) (i : ℕ) (x : Instr) → i < length xs → x ≡ get_or xs i x → IsTrue (list_all (λ y. has_own_steps y.act) xs) → IsTrue (has_own_steps x.act)
 own_at [] i x h e own = absurd (omega arith)
@@ -22,7 +20,6 @@ more (y ∷ ys) (suc i) x h e writable before =
     rw next (before.0, more ys i x (omega arith) e writable before.1)
 
 -- one more of them
-pub writable_more : (xs : List Instr) (i : ℕ) (x : Instr) (bytes : List ℕ) → i < length xs → x ≡ get_or xs i x → IsTrue (list_all (λ y. has_own_steps y.act) xs)
-    → ReadsBack (instr_value x) bytes → AreWritable (take i xs) → AreWritable (take (i + 1) xs)
-writable_more xs i x bytes h e own back before =
-    more xs i x h e (record { own = own_at xs i x h e own; small = read_small back.text x back.value_read }) before
+pub writable_more : (xs : List Instr) (i : ℕ) (x : Instr) → i < length xs → x ≡ get_or xs i x → IsTrue (list_all (λ y. has_own_steps y.act) xs)
+    → HasSmallNumbers (instr_value x) → AreWritable (take i xs) → AreWritable (take (i + 1) xs)
+writable_more xs i x h e own small before = more xs i x h e (record { own = own_at xs i x h e own; small = small }) before

@@ -3,4 +3,4 @@ pub mod Tally
 pub mod Lines
 pub mod Writing
 pub mod Ranges
-pub mod Sent
+pub mod Added

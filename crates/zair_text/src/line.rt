@@ -4,18 +4,21 @@ ghost use Rattle.std.specs.Prelude.{◌≡◌, ◌≤◌, ◌++◌, ◌∷◌, [
 ghost use Rattle.serde_json.specs.Data.{depth};
 ghost use Rattle.serde_json.specs.Read.{max_depth};
 ghost use Rattle.serde_json.specs.View.{view};
-ghost use Rattle.serde_json.specs.Written.{has_float, compact_text};
+ghost use Rattle.serde_json.specs.Written.{has_float};
 ghost use Rattle.zair_form.specs.Steps.{has_own_steps};
 ghost use Rattle.zair_text.specs.Values.{instr_value, header_value, end_value};
 ghost use Rattle.zair_text.specs.Ranges.{HasSmallNumbers};
 ghost use Rattle.zair_text.specs.Lines.{line, instr_line, totals_line, ReadsBack};
 
 use crate::counts::Totals;
-use crate::value::{Line, end_json, header_json};
+use crate::value::{AddJson, end_json, header_json};
 use serde_json::Value;
 use std::alloc::Global;
 use zac_gates::{Bytes, List, Memory};
 use zair_form::Instr;
+
+/// The bytes for which a line has room from the start.
+const SHORT_LINE: usize = 256;
 
 // The line of a value.
 fn line_from(alloc: Global, value: &Value) -> Result<Bytes, Memory>
@@ -29,16 +32,14 @@ fn line_from(alloc: Global, value: &Value) -> Result<Bytes, Memory>
     Ok(List::of(bytes))
 }
 
-// The compact text of an instruction's value. The writer refuses no event that an instruction sends, so that its errors are want
-// of memory.
-fn text_of(alloc: Global, instr: &Instr) -> Result<Vec<u8>, Memory>
-    ensures text { IfOk result (λ bytes. bytes.items ≡ compact_text (instr_value instr.now)) }
+// Adds the line of an instruction, whose numbers are small.
+pub(crate) fn add_line(instr: &Instr, out: &mut Vec<u8>) -> Result<(), Memory>
+    ensures line { OnOk result (out.new.items ≡ out.old.items ++ instr_line instr.now) }
     ensures small { OnOk result (HasSmallNumbers (instr_value instr.now)) }
 {
-    match serde_json::to_vec(alloc, &Line { instr }) {
-        Ok(bytes) => Ok(bytes),
-        Err(_) => Err(Memory),
-    }
+    instr.add_to(out)?;
+    out.push(b'\n')?;
+    Ok(())
 }
 
 /// The line of an instruction: its JSON object, written compactly with the keys in byte order, and a line feed.
@@ -49,8 +50,8 @@ pub fn line_of(alloc: Global, instr: &Instr) -> Result<Bytes, Memory>
     ensures line { IfOk result (λ bytes. bytes ≡ instr_line instr.now) }
     ensures reads_back { IfOk result (ReadsBack (instr_value instr.now)) }
 {
-    let mut bytes = text_of(alloc, instr)?;
-    bytes.push(b'\n')?;
+    let mut bytes = Vec::with_capacity(alloc, SHORT_LINE)?;
+    add_line(instr, &mut bytes)?;
     Ok(List::of(bytes))
 }
 

@@ -1,306 +1,345 @@
-//! The events of the JSON values of instructions and their parts, and the values of the first and the last line.
+//! The compact JSON texts of instructions and their parts, added to bytes; and the values of the first and the last line.
 
-ghost use Rattle.std.specs.Prelude.{◌≡◌, ◌∷◌, [], map, IfOk, OnOk};
-ghost use Rattle.serde_json.specs.Data.{Data, string};
+ghost use Rattle.std.specs.Prelude.{◌≡◌, ◌++◌, ◌∷◌, [], map, codes, decimal, IfOk, OnOk};
+ghost use Rattle.serde_json.specs.Data.{Data, null, string};
 ghost use Rattle.serde_json.specs.View.{view};
 ghost use Rattle.zair_form.specs.declared.program.Act.TheVariants.{Job};
-ghost use Rattle.zair_text.specs.Values.{array_of, number_value, trap_value, beam_value, caught_value, dropped_value, pair_value, read_value, gate_value, activate_value, move_value, deactivate_value, step_value, timed_value, act_value, instr_value, header_value, end_value};
-ghost use Rattle.zair_text.specs.Sent.{IsSent, IsMemberSent};
+ghost use Rattle.zair_text.specs.Values.{array_of, numbers, number_value, trap_value, beam_value, caught_value, dropped_value, pair_value, read_value, gate_value, activate_value, move_value, deactivate_value, step_value, timed_value, act_value, instr_value, header_value, end_value};
+ghost use Rattle.zair_text.specs.Added.{IsAdded, AreLaterAdded, IsTimedAdded};
 
 use crate::counts::Totals;
-use serde::{Described, Serialize, Serializer};
+use itoa::Buffer;
 use serde_json::{Value, json};
 use std::alloc::{AllocError, Global};
 use zac_arch::TrapId;
-use zac_gates::Angle;
+use zac_gates::{Angle, Memory};
 use zair_form::{Act, Beam, Caught, Dropped, Instr, OneGate, PairOf, ReadOf, Step};
 
-/// What is sent to a serializer as a JSON value.
-pub(crate) trait SendJson {
+/// What has a JSON value.
+pub(crate) trait AddJson {
     /// The value.
     ghost value_of: { Self → Data };
 
-    /// Sends the value.
-    fn send<S: Serializer>(&self, out: &mut S) -> Result<(), S::Error>
-        ensures { OnOk result (IsSent (value_of self.now) (S.written out.old) (S.written out.new)) };
+    /// Adds the compact text of the value.
+    fn add_to(&self, out: &mut Vec<u8>) -> Result<(), Memory>
+        ensures { OnOk result (IsAdded [] (value_of self.now) out.old.items out.new.items) };
 }
 
-// Sends the array of the items' values.
-fn send_array<T: SendJson, S: Serializer>(items: &[T], out: &mut S) -> Result<(), S::Error>
-    ensures { OnOk result (IsSent (array_of (map T.value_of items.now)) (S.written out.old) (S.written out.new)) }
+// Adds a number in decimal digits.
+fn add_digits(n: u64, out: &mut Vec<u8>) -> Result<(), Memory>
+    ensures { OnOk result (out.new.items ≡ out.old.items ++ decimal n) }
 {
-    out.begin_seq(Some(items.len()))?;
+    out.extend_from_slice(Buffer::new().format(n).as_bytes())?;
+    Ok(())
+}
+
+// Adds this head, and then a number.
+fn add_number(head: &[u8], n: u64, out: &mut Vec<u8>) -> Result<(), Memory>
+    ensures { OnOk result (IsAdded head.now (number_value n) out.old.items out.new.items) }
+{
+    out.extend_from_slice(head)?;
+    add_digits(n, out)
+}
+
+// Adds an array of two numbers.
+fn add_two(a: u32, b: u32, out: &mut Vec<u8>) -> Result<(), Memory>
+    ensures { OnOk result (IsAdded [] (numbers (a ∷ b ∷ [])) out.old.items out.new.items) }
+{
+    out.push(b'[')?;
+    add_digits(u64::from(a), out)?;
+    out.push(b',')?;
+    add_digits(u64::from(b), out)?;
+    out.push(b']')?;
+    Ok(())
+}
+
+// Adds an array of three numbers.
+fn add_three(a: u32, b: u32, c: u32, out: &mut Vec<u8>) -> Result<(), Memory>
+    ensures { OnOk result (IsAdded [] (numbers (a ∷ b ∷ c ∷ [])) out.old.items out.new.items) }
+{
+    out.push(b'[')?;
+    add_digits(u64::from(a), out)?;
+    out.push(b',')?;
+    add_digits(u64::from(b), out)?;
+    out.push(b',')?;
+    add_digits(u64::from(c), out)?;
+    out.push(b']')?;
+    Ok(())
+}
+
+// Adds a comma and its text for each of these items.
+fn add_later<T: AddJson>(items: &[T], out: &mut Vec<u8>) -> Result<(), Memory>
+    ensures { OnOk result (AreLaterAdded (map T.value_of items.now) out.old.items out.new.items) }
+{
     for item in items {
-        item.send(out)?;
+        out.push(b',')?;
+        item.add_to(out)?;
     }
-    out.end_seq()
+    Ok(())
 }
 
-// Sends a key and a value.
-fn send_member<T: SendJson, S: Serializer>(
-    key: &str,
-    value: &T,
-    out: &mut S,
-) -> Result<(), S::Error>
-    ensures { OnOk result (IsMemberSent key.now (T.value_of value.now) (S.written out.old) (S.written out.new)) }
+// Adds an array of an item and more.
+fn add_some<T: AddJson>(first: &T, later: &[T], out: &mut Vec<u8>) -> Result<(), Memory>
+    ensures { OnOk result (IsAdded [] (array_of (T.value_of first.now ∷ map T.value_of later.now)) out.old.items out.new.items) }
 {
-    out.key(key)?;
-    value.send(out)
+    out.push(b'[')?;
+    first.add_to(out)?;
+    add_later(later, out)?;
+    out.push(b']')?;
+    Ok(())
 }
 
-// Sends a key and an array.
-fn send_list<T: SendJson, S: Serializer>(
-    key: &str,
-    items: &[T],
-    out: &mut S,
-) -> Result<(), S::Error>
-    ensures { OnOk result (IsMemberSent key.now (array_of (map T.value_of items.now)) (S.written out.old) (S.written out.new)) }
+// Adds an array of no item.
+fn add_none(out: &mut Vec<u8>) -> Result<(), Memory>
+    ensures { OnOk result (IsAdded [] (array_of []) out.old.items out.new.items) }
 {
-    out.key(key)?;
-    send_array(items, out)
+    out.extend_from_slice(b"[]")?;
+    Ok(())
 }
 
-// Sends a key and a text.
-fn send_text<S: Serializer>(key: &str, text: &str, out: &mut S) -> Result<(), S::Error>
-    ensures { OnOk result (IsMemberSent key.now (string text.now) (S.written out.old) (S.written out.new)) }
+// Adds an array.
+fn add_items<T: AddJson>(items: &[T], out: &mut Vec<u8>) -> Result<(), Memory>
+    ensures { OnOk result (IsAdded [] (array_of (map T.value_of items.now)) out.old.items out.new.items) }
 {
-    out.key(key)?;
-    out.str(text)
+    match items {
+        [] => add_none(out),
+        [first, later @ ..] => add_some(first, later, out),
+    }
 }
 
-impl SendJson for u8 {
+// Adds this head, and then an array.
+fn add_list<T: AddJson>(head: &[u8], items: &[T], out: &mut Vec<u8>) -> Result<(), Memory>
+    ensures { OnOk result (IsAdded head.now (array_of (map T.value_of items.now)) out.old.items out.new.items) }
+{
+    out.extend_from_slice(head)?;
+    add_items(items, out)
+}
+
+impl AddJson for u8 {
     ghost value_of = { number_value };
 
-    fn send<S: Serializer>(&self, out: &mut S) -> Result<(), S::Error> {
-        out.u64(u64::from(*self))
+    fn add_to(&self, out: &mut Vec<u8>) -> Result<(), Memory> {
+        add_number(b"", u64::from(*self), out)
     }
 }
 
-impl SendJson for u32 {
-    ghost value_of = { number_value };
-
-    fn send<S: Serializer>(&self, out: &mut S) -> Result<(), S::Error> {
-        out.u64(u64::from(*self))
-    }
-}
-
-impl SendJson for u64 {
-    ghost value_of = { number_value };
-
-    fn send<S: Serializer>(&self, out: &mut S) -> Result<(), S::Error> {
-        out.u64(*self)
-    }
-}
-
-impl SendJson for TrapId {
+impl AddJson for TrapId {
     ghost value_of = { trap_value };
 
-    fn send<S: Serializer>(&self, out: &mut S) -> Result<(), S::Error> {
-        out.u64(u64::from(self.0))
+    fn add_to(&self, out: &mut Vec<u8>) -> Result<(), Memory> {
+        add_number(b"", u64::from(self.0), out)
     }
 }
 
-impl SendJson for Beam {
+impl AddJson for Beam {
     ghost value_of = { beam_value };
 
-    fn send<S: Serializer>(&self, out: &mut S) -> Result<(), S::Error> {
-        send_array(&[u32::from(self.id), self.at], out)
+    fn add_to(&self, out: &mut Vec<u8>) -> Result<(), Memory> {
+        add_two(u32::from(self.id), self.at, out)
     }
 }
 
-impl SendJson for Caught {
+impl AddJson for Caught {
     ghost value_of = { caught_value };
 
-    fn send<S: Serializer>(&self, out: &mut S) -> Result<(), S::Error> {
-        send_array(&[self.q, u32::from(self.row), u32::from(self.column)], out)
+    fn add_to(&self, out: &mut Vec<u8>) -> Result<(), Memory> {
+        add_three(self.q, u32::from(self.row), u32::from(self.column), out)
     }
 }
 
-impl SendJson for Dropped {
+impl AddJson for Dropped {
     ghost value_of = { dropped_value };
 
-    fn send<S: Serializer>(&self, out: &mut S) -> Result<(), S::Error> {
-        send_array(&[self.q, self.trap.0], out)
+    fn add_to(&self, out: &mut Vec<u8>) -> Result<(), Memory> {
+        add_two(self.q, self.trap.0, out)
     }
 }
 
-impl SendJson for PairOf {
+impl AddJson for PairOf {
     ghost value_of = { pair_value };
 
-    fn send<S: Serializer>(&self, out: &mut S) -> Result<(), S::Error> {
-        send_array(&[self.op, self.a, self.b], out)
+    fn add_to(&self, out: &mut Vec<u8>) -> Result<(), Memory> {
+        add_three(self.op, self.a, self.b, out)
     }
 }
 
-impl SendJson for ReadOf {
+impl AddJson for ReadOf {
     ghost value_of = { read_value };
 
-    fn send<S: Serializer>(&self, out: &mut S) -> Result<(), S::Error> {
-        send_array(&[self.op, self.q, self.bit], out)
+    fn add_to(&self, out: &mut Vec<u8>) -> Result<(), Memory> {
+        add_three(self.op, self.q, self.bit, out)
     }
 }
 
-impl SendJson for Angle {
-    ghost value_of = { string };
-
-    fn send<S: Serializer>(&self, out: &mut S) -> Result<(), S::Error> {
-        let text = str::from_utf8(self.bytes()).unwrap();
-        out.str(text)
-    }
-}
-
-// Sends the three angles of a gate.
-fn send_angles<S: Serializer>(gate: &OneGate, out: &mut S) -> Result<(), S::Error>
-    ensures { OnOk result (IsSent (array_of (string gate.now.angles.theta ∷ string gate.now.angles.phi ∷ string gate.now.angles.lambda ∷ [])) (S.written out.old) (S.written out.new)) }
+// Adds this head, and then an angle as a string; no byte of it is escaped.
+fn add_angle(head: &[u8], angle: &Angle, out: &mut Vec<u8>) -> Result<(), Memory>
+    ensures { OnOk result (IsAdded head.now (string angle.now) out.old.items out.new.items) }
 {
-    out.begin_seq(Some(3))?;
-    gate.angles.theta.send(out)?;
-    gate.angles.phi.send(out)?;
-    gate.angles.lambda.send(out)?;
-    out.end_seq()
+    out.extend_from_slice(head)?;
+    out.push(b'"')?;
+    out.extend_from_slice(angle.bytes())?;
+    out.push(b'"')?;
+    Ok(())
 }
 
-impl SendJson for OneGate {
+// Adds this head, and then the array of the three angles of a gate.
+fn add_angles(head: &[u8], gate: &OneGate, out: &mut Vec<u8>) -> Result<(), Memory>
+    ensures { OnOk result (IsAdded head.now (array_of (string gate.now.angles.theta ∷ string gate.now.angles.phi ∷ string gate.now.angles.lambda ∷ [])) out.old.items out.new.items) }
+{
+    out.extend_from_slice(head)?;
+    add_angle(b"[", &gate.angles.theta, out)?;
+    add_angle(b",", &gate.angles.phi, out)?;
+    add_angle(b",", &gate.angles.lambda, out)?;
+    out.push(b']')?;
+    Ok(())
+}
+
+impl AddJson for OneGate {
     ghost value_of = { gate_value };
 
-    fn send<S: Serializer>(&self, out: &mut S) -> Result<(), S::Error> {
-        out.begin_map(Some(3))?;
-        send_member("op", &self.op, out)?;
-        send_member("q", &self.q, out)?;
-        out.key("u")?;
-        send_angles(self, out)?;
-        out.end_map()
+    fn add_to(&self, out: &mut Vec<u8>) -> Result<(), Memory> {
+        add_number(b"{\"op\":", u64::from(self.op), out)?;
+        add_number(b",\"q\":", u64::from(self.q), out)?;
+        add_angles(b",\"u\":", self, out)?;
+        out.push(b'}')?;
+        Ok(())
     }
 }
 
-fn send_activate<S: Serializer>(
+fn add_activate(
     rows: &[Beam],
     columns: &[Beam],
     atoms: &[Caught],
-    out: &mut S,
-) -> Result<(), S::Error>
-    ensures { OnOk result (IsSent (activate_value rows.now columns.now atoms.now) (S.written out.old) (S.written out.new)) }
+    out: &mut Vec<u8>,
+) -> Result<(), Memory>
+    ensures { OnOk result (IsAdded [] (activate_value rows.now columns.now atoms.now) out.old.items out.new.items) }
 {
-    out.begin_map(Some(4))?;
-    send_list("atoms", atoms, out)?;
-    send_list("columns", columns, out)?;
-    send_list("rows", rows, out)?;
-    send_text("step", "activate", out)?;
-    out.end_map()
+    add_list(b"{\"atoms\":", atoms, out)?;
+    add_list(b",\"columns\":", columns, out)?;
+    add_list(b",\"rows\":", rows, out)?;
+    out.extend_from_slice(b",\"step\":\"activate\"}")?;
+    Ok(())
 }
 
-fn send_move<S: Serializer>(rows: &[Beam], columns: &[Beam], out: &mut S) -> Result<(), S::Error>
-    ensures { OnOk result (IsSent (move_value rows.now columns.now) (S.written out.old) (S.written out.new)) }
+fn add_move(rows: &[Beam], columns: &[Beam], out: &mut Vec<u8>) -> Result<(), Memory>
+    ensures { OnOk result (IsAdded [] (move_value rows.now columns.now) out.old.items out.new.items) }
 {
-    out.begin_map(Some(3))?;
-    send_list("columns", columns, out)?;
-    send_list("rows", rows, out)?;
-    send_text("step", "move", out)?;
-    out.end_map()
+    add_list(b"{\"columns\":", columns, out)?;
+    add_list(b",\"rows\":", rows, out)?;
+    out.extend_from_slice(b",\"step\":\"move\"}")?;
+    Ok(())
 }
 
-fn send_deactivate<S: Serializer>(
+fn add_deactivate(
     rows: &[u8],
     columns: &[u8],
     atoms: &[Dropped],
-    out: &mut S,
-) -> Result<(), S::Error>
-    ensures { OnOk result (IsSent (deactivate_value rows.now columns.now atoms.now) (S.written out.old) (S.written out.new)) }
+    out: &mut Vec<u8>,
+) -> Result<(), Memory>
+    ensures { OnOk result (IsAdded [] (deactivate_value rows.now columns.now atoms.now) out.old.items out.new.items) }
 {
-    out.begin_map(Some(4))?;
-    send_list("atoms", atoms, out)?;
-    send_list("columns", columns, out)?;
-    send_list("rows", rows, out)?;
-    send_text("step", "deactivate", out)?;
-    out.end_map()
+    add_list(b"{\"atoms\":", atoms, out)?;
+    add_list(b",\"columns\":", columns, out)?;
+    add_list(b",\"rows\":", rows, out)?;
+    out.extend_from_slice(b",\"step\":\"deactivate\"}")?;
+    Ok(())
 }
 
-impl SendJson for Step {
+// Adds the value of what is no step of a job.
+fn add_null(out: &mut Vec<u8>) -> Result<(), Memory>
+    ensures { OnOk result (IsAdded [] null out.old.items out.new.items) }
+{
+    out.extend_from_slice(b"null")?;
+    Ok(())
+}
+
+impl AddJson for Step {
     ghost value_of = { step_value };
 
-    fn send<S: Serializer>(&self, out: &mut S) -> Result<(), S::Error> {
+    fn add_to(&self, out: &mut Vec<u8>) -> Result<(), Memory> {
         match self {
             Step::Activate {
                 rows,
                 columns,
                 atoms,
                 ..
-            } => send_activate(rows.as_slice(), columns.as_slice(), atoms.as_slice(), out),
-            Step::Move { rows, columns, .. } => send_move(rows.as_slice(), columns.as_slice(), out),
+            } => add_activate(rows.as_slice(), columns.as_slice(), atoms.as_slice(), out),
+            Step::Move { rows, columns, .. } => add_move(rows.as_slice(), columns.as_slice(), out),
             Step::Deactivate {
                 rows,
                 columns,
                 atoms,
                 ..
-            } => send_deactivate(rows.as_slice(), columns.as_slice(), atoms.as_slice(), out),
-            Step::One { .. } | Step::Pulse { .. } | Step::Readout { .. } => out.unit(),
+            } => add_deactivate(rows.as_slice(), columns.as_slice(), atoms.as_slice(), out),
+            Step::One { .. } | Step::Pulse { .. } | Step::Readout { .. } => add_null(out),
         }
     }
 }
 
-// Sends the object with the times of an instruction, a list under its key, and the kind.
-fn send_timed<T: SendJson, S: Serializer>(
+// Adds the times of an instruction as the first members of its object, a head, a list and a tail.
+fn add_timed<T: AddJson>(
     times: (u64, u64),
-    key: &str,
+    head: &[u8],
     items: &[T],
-    kind: &str,
-    out: &mut S,
-) -> Result<(), S::Error>
-    ensures { OnOk result (IsSent (timed_value times.0 times.1 key.now (map T.value_of items.now) kind.now) (S.written out.old) (S.written out.new)) }
+    tail: &[u8],
+    out: &mut Vec<u8>,
+) -> Result<(), Memory>
+    ensures { OnOk result (IsTimedAdded times.0 times.1 head.now (array_of (map T.value_of items.now)) tail.now out.old.items out.new.items) }
 {
-    out.begin_map(Some(4))?;
-    send_member("begin", &times.0, out)?;
-    send_member("end", &times.1, out)?;
-    send_list(key, items, out)?;
-    send_text("type", kind, out)?;
-    out.end_map()
+    add_number(b"{\"begin\":", times.0, out)?;
+    add_number(b",\"end\":", times.1, out)?;
+    add_list(head, items, out)?;
+    out.extend_from_slice(tail)?;
+    Ok(())
 }
 
-fn send_job<S: Serializer>(
-    times: (u64, u64),
-    aod: u8,
-    steps: &[Step],
-    out: &mut S,
-) -> Result<(), S::Error>
-    ensures { OnOk result (IsSent (act_value times.0 times.1 (Job aod steps.now)) (S.written out.old) (S.written out.new)) }
+fn add_job(times: (u64, u64), aod: u8, steps: &[Step], out: &mut Vec<u8>) -> Result<(), Memory>
+    ensures { OnOk result (IsAdded [] (act_value times.0 times.1 (Job aod steps.now)) out.old.items out.new.items) }
 {
-    out.begin_map(Some(5))?;
-    send_member("aod", &aod, out)?;
-    send_member("begin", &times.0, out)?;
-    send_member("end", &times.1, out)?;
-    send_list("steps", steps, out)?;
-    send_text("type", "rearrangeJob", out)?;
-    out.end_map()
+    add_number(b"{\"aod\":", u64::from(aod), out)?;
+    add_number(b",\"begin\":", times.0, out)?;
+    add_number(b",\"end\":", times.1, out)?;
+    add_list(b",\"steps\":", steps, out)?;
+    out.extend_from_slice(b",\"type\":\"rearrangeJob\"}")?;
+    Ok(())
 }
 
-impl SendJson for Instr {
+fn add_init(times: (u64, u64), homes: &[TrapId], out: &mut Vec<u8>) -> Result<(), Memory>
+    ensures { OnOk result (IsAdded [] (timed_value times.0 times.1 (codes "homes") (map trap_value homes.now) (codes "init")) out.old.items out.new.items) }
+{
+    add_timed(times, b",\"homes\":", homes, b",\"type\":\"init\"}", out)
+}
+
+fn add_gates(times: (u64, u64), ones: &[OneGate], out: &mut Vec<u8>) -> Result<(), Memory>
+    ensures { OnOk result (IsAdded [] (timed_value times.0 times.1 (codes "gates") (map gate_value ones.now) (codes "1qGate")) out.old.items out.new.items) }
+{
+    add_timed(times, b",\"gates\":", ones, b",\"type\":\"1qGate\"}", out)
+}
+
+fn add_pulse(times: (u64, u64), pairs: &[PairOf], out: &mut Vec<u8>) -> Result<(), Memory>
+    ensures { OnOk result (IsAdded [] (timed_value times.0 times.1 (codes "pairs") (map pair_value pairs.now) (codes "rydberg")) out.old.items out.new.items) }
+{
+    add_timed(times, b",\"pairs\":", pairs, b",\"type\":\"rydberg\"}", out)
+}
+
+fn add_readout(times: (u64, u64), reads: &[ReadOf], out: &mut Vec<u8>) -> Result<(), Memory>
+    ensures { OnOk result (IsAdded [] (timed_value times.0 times.1 (codes "reads") (map read_value reads.now) (codes "readout")) out.old.items out.new.items) }
+{
+    add_timed(times, b",\"reads\":", reads, b",\"type\":\"readout\"}", out)
+}
+
+impl AddJson for Instr {
     ghost value_of = { instr_value };
 
-    fn send<S: Serializer>(&self, out: &mut S) -> Result<(), S::Error> {
+    fn add_to(&self, out: &mut Vec<u8>) -> Result<(), Memory> {
         let times = (self.begin, self.end);
         match &self.act {
-            Act::Init { homes } => send_timed(times, "homes", homes.as_slice(), "init", out),
-            Act::Gates { ones } => send_timed(times, "gates", ones.as_slice(), "1qGate", out),
-            Act::Rydberg { pairs } => send_timed(times, "pairs", pairs.as_slice(), "rydberg", out),
-            Act::Job { aod, steps } => send_job(times, *aod, steps.as_slice(), out),
-            Act::Readout { reads } => send_timed(times, "reads", reads.as_slice(), "readout", out),
+            Act::Init { homes } => add_init(times, homes.as_slice(), out),
+            Act::Gates { ones } => add_gates(times, ones.as_slice(), out),
+            Act::Rydberg { pairs } => add_pulse(times, pairs.as_slice(), out),
+            Act::Job { aod, steps } => add_job(times, *aod, steps.as_slice(), out),
+            Act::Readout { reads } => add_readout(times, reads.as_slice(), out),
         }
-    }
-}
-
-/// An instruction, as serde writes it.
-#[derive(Drop)]
-pub(crate) struct Line<'a> {
-    pub(crate) instr: &'a Instr,
-}
-
-impl Described for Line<'_> {
-    ghost writes = { λ l old new. IsSent (instr_value l.instr.now) old new };
-}
-
-impl Serialize for Line<'_> {
-    fn serialize<S: Serializer>(&self, out: &mut S) -> Result<(), S::Error> {
-        self.instr.send(out)
     }
 }
 

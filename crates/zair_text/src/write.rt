@@ -9,7 +9,7 @@ ghost use Rattle.zair_text.specs.Lines.{line, instr_line, totals_line, later_lin
 ghost use Rattle.zair_text.specs.Tally.{totals_of};
 
 use crate::counts::tally;
-use crate::line::{end_line, header_line, line_of};
+use crate::line::{add_line, end_line, header_line};
 use std::alloc::Global;
 use thiserror::Error;
 use zac_gates::Memory;
@@ -54,7 +54,7 @@ ghost use Rattle.zair_text.specs.Writing.{AppendsLines, HasWriteCause};
 
 /// Writes the text of a program: its first line, a line for each instruction, and the line of its tally, by one
 /// `write` for each line.
-/// Each line is made, written and dropped before the next.
+/// Each line is made and written before the next, in the room of the one before.
 ///
 /// `Failed` comes only where the sink's faults rose, and then a prefix of the text went out. After `Memory` whole
 /// lines went out, and not all of them. At every answer but `Failed` the sink's faults are as they were.
@@ -107,8 +107,10 @@ fn write_instrs<K: Sink>(alloc: Global, instrs: &[Instr], sink: &mut K) -> Resul
     ensures writable { OnOk result (AreWritable instrs.now) }
 {
     writes_add_up();
+    let mut line = Vec::new(alloc);
     for instr in instrs {
-        let line = line_of(alloc, instr)?;
+        line.clear();
+        add_line(instr, &mut line)?;
         sink.write(line.as_slice())?;
     }
     Ok(())

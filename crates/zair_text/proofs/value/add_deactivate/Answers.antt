@@ -1,0 +1,5 @@
+use Rattle.zair_text.proofs.Objects.{deactivate_added}
+use Rattle.zair_text.proofs.value.add_deactivate.Goals as goal
+
+pub returns : goal.returns
+returns c = deactivate_added c.args.rows.now c.args.columns.now c.args.atoms.now _ _ _ _ _ c.in_ok-add_list.ensures c.in_ok-add_list-2.ensures c.in_ok-add_list-3.ensures c.in_ok-extend_from_slice.ensures.items
