@@ -7,3 +7,5 @@ pub mod Telling
 pub mod Walk
 pub mod Answered
 pub mod Written
+pub mod CompactParts
+pub mod CompactLines

@@ -297,7 +297,7 @@ end_text t h = record {
   value_read = plain_read (end_value t) (end_plain t h) (refl, (tt, (tt, (tt, (tt, (tt, (tt, (tt, (tt, (tt, (tt, tt))))))))))) (omega arith);
 }
 
-instr_text : (i : Instr) → IsTrue (has_own_steps i.act) → InstrFits i → IsInstrText (compact_text (instr_value i)) i
+pub instr_text : (i : Instr) → IsTrue (has_own_steps i.act) → InstrFits i → IsInstrText (compact_text (instr_value i)) i
 instr_text i own h = record {
   text = record { utf8 = text_utf8 (instr_value i) (instr_plain i h); value_read = instr_read i (small (instr_value i) (instr_plain i h)) };
   own = own;

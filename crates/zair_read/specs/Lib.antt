@@ -2,3 +2,4 @@ pub mod Told
 pub mod Texts
 pub mod Kinds
 pub mod Causes
+pub mod Compact

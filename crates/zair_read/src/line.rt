@@ -8,6 +8,7 @@ ghost use Rattle.zair_text.specs.Values.{header_value};
 ghost use Rattle.zair_read.specs.Texts.{IsTextOf, IsInstrText};
 ghost use Rattle.zair_read.specs.Kinds.{IsKind, IsKindIn};
 
+use crate::direct::written_instr;
 use crate::ends::{is_header, totals_in};
 use crate::fault::TextFault;
 use crate::instr::instr_in;
@@ -45,18 +46,30 @@ fn value_of(alloc: Global, bytes: &[u8]) -> Result<Value, TextFault>
     }
 }
 
-/// The instruction of a line.
-///
-/// It is answered exactly where `serde_json` reads the bytes as the JSON value of an instruction whose numbers and angles are
-/// in the ranges of the text form, and whose steps, if it is a job, are of its own AOD: the keys may come in any order and with
-/// blanks, of a key that comes twice the last value counts, and a number has no sign, no point and no exponent. Else the
-/// bytes are refused. It reads in time linear in the bytes.
-pub fn read_line(alloc: Global, bytes: &[u8]) -> Result<Instr, TextFault>
+// The instruction of a line in whatever layout.
+fn any_instr(alloc: Global, bytes: &[u8]) -> Result<Instr, TextFault>
     ensures instr { IfOk result (IsInstrText bytes.now) }
     ensures refused { IsErrOf result TextFault.Refused → (i : Instr) → ¬ IsInstrText bytes.now i }
 {
     let value = value_of(alloc, bytes)?;
     instr_in(alloc, &value)
+}
+
+/// The instruction of a line.
+///
+/// It is answered exactly where `serde_json` reads the bytes as the JSON value of an instruction whose numbers and angles are
+/// in the ranges of the text form, and whose steps, if it is a job, are of its own AOD: the keys may come in any order and with
+/// blanks, of a key that comes twice the last value counts, and a number has no sign, no point and no exponent. Else the
+/// bytes are refused. It reads in time linear in the bytes, and fastest what `zair_text` writes, since that becomes no JSON value.
+pub fn read_line(alloc: Global, bytes: &[u8]) -> Result<Instr, TextFault>
+    ensures instr { IfOk result (IsInstrText bytes.now) }
+    ensures refused { IsErrOf result TextFault.Refused → (i : Instr) → ¬ IsInstrText bytes.now i }
+{
+    match written_instr(alloc, bytes) {
+        Ok(instr) => Ok(instr),
+        Err(TextFault::Refused) => any_instr(alloc, bytes),
+        Err(TextFault::Memory) => Err(TextFault::Memory),
+    }
 }
 
 /// Whether a text is that of the first line.
@@ -84,13 +97,24 @@ fn kind_in(alloc: Global, value: &Value) -> Result<Kind, Memory>
     }
 }
 
-/// What a line behind the first one is.
-pub(crate) fn kind_of(alloc: Global, bytes: &[u8]) -> Result<Kind, Memory>
+// What a line behind the first one is, in whatever layout.
+fn any_kind(alloc: Global, bytes: &[u8]) -> Result<Kind, Memory>
     ensures { IfOk result (IsKind bytes.now) }
 {
     match value_of(alloc, bytes) {
         Ok(value) => kind_in(alloc, &value),
         Err(TextFault::Refused) => Ok(Kind::Neither),
+        Err(TextFault::Memory) => Err(Memory),
+    }
+}
+
+/// What a line behind the first one is.
+pub(crate) fn kind_of(alloc: Global, bytes: &[u8]) -> Result<Kind, Memory>
+    ensures { IfOk result (IsKind bytes.now) }
+{
+    match written_instr(alloc, bytes) {
+        Ok(instr) => Ok(Kind::Instr(instr)),
+        Err(TextFault::Refused) => any_kind(alloc, bytes),
         Err(TextFault::Memory) => Err(Memory),
     }
 }

@@ -1,6 +1,6 @@
 use Rattle.serde_json.specs.View.{view}
 use Rattle.zair_read.proofs.Answering.{answered, refused}
-use Rattle.zair_read.proofs.line.read_line.Goals as goal
+use Rattle.zair_read.proofs.line.any_instr.Goals as goal
 
 pub returns-clause-instr : goal.returns-clause-instr
 returns-clause-instr c =

@@ -1,6 +1,6 @@
 use Rattle.serde_json.specs.View.{view}
 use Rattle.zair_read.proofs.Answering.{kind_answered}
-use Rattle.zair_read.proofs.line.kind_of.Goals as goal
+use Rattle.zair_read.proofs.line.any_kind.Goals as goal
 
 pub returns-in-Ok : goal.returns-in-Ok
 returns-in-Ok c =
