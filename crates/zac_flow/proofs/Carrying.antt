@@ -4,12 +4,13 @@ use Rattle.std.specs.Prelude.{IfOk, IfErr, OnOk}
 use Rattle.zac_io.specs.Outside.{NamedFiles, Appends}
 use Rattle.zac_flow.specs.Answers.{LeavesPanel, StraysRise}
 use Rattle.zac_flow.specs.Due.{IsDue, two_files}
-use Rattle.zac_flow.specs.Faults.{Leaves, outcome, status_of}
+use Rattle.zac_fault.specs.Statuses.{outcome, status_of}
+use Rattle.zac_flow.specs.Faults.{Leaves}
 use Rattle.zac_flow.specs.Panel.{Reading, MayBeShownPart}
 use Rattle.zac_flow.specs.Words.{Command, Compile, Report, Replay, Make, Drill}
 use Rattle.zac_flow.specs.Written.{IsWritten}
-use Rattle.zac_flow.specs.declared.status.Fault.{Fault}
-use Rattle.zac_flow.specs.declared.status.Fault.TheVariants.{Usage, Read, Long, Card, Source, Limit, Qubits, Zair, NotTheCircuit, Write, Memory}
+use Rattle.zac_fault.specs.declared.status.Fault.{Fault}
+use Rattle.zac_fault.specs.declared.status.Fault.TheVariants.{Usage, Read, Long, Card, Source, Limit, Qubits, Zair, NotTheCircuit, Write, Memory}
 
 -- a fault other than in writing may leave out as it was
 unchanged : (files : Option NamedFiles) (command : Command) (old new : Option (List ℕ)) (panel panel' : List Reading) (f : Fault) → f ≢ Write → new ≡ old →

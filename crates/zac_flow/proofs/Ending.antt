@@ -7,18 +7,20 @@ use Rattle.zair_form.specs.declared.program.Instr.{Instr}
 use Rattle.zac_flow.specs.Answers.{Does, HasCard, HasInputs, IsExact}
 use Rattle.zac_flow.specs.Compiled.{CompilesTo, MayCompileTo, IsServed}
 use Rattle.zac_flow.specs.Due.{two_files}
-use Rattle.zac_flow.specs.Faults.{IsFaultOf, IsFaultOrWant, Means, MeansOf, MeansByFiles, status_of, without_text}
-use Rattle.zac_flow.specs.Inputs.{Gives, GivesCard, GivesText, AreShort, IsLongCard, IsShortCard, source_limit}
+use Rattle.zac_fault.specs.Statuses.{status_of}
+use Rattle.zac_flow.specs.Faults.{IsFaultOf, IsFaultOrWant, Means, MeansOf, MeansByFiles, without_text}
+use Rattle.qasm_source.specs.Source.{source_limit}
+use Rattle.zac_flow.specs.Inputs.{Gives, GivesCard, GivesText, AreShort, IsLongCard, IsShortCard}
 use Rattle.zac_flow.specs.Panel.{Reading}
 use Rattle.zac_flow.specs.Words.{Command, Compile, Report, Replay, Make, Drill, FileWords, file_words}
 use Rattle.zac_flow.specs.declared.inputs.CardInput.{CardInput}
 use Rattle.zac_flow.specs.declared.inputs.CardInput.TheVariants.{Tiny, Standard, Text}
 use Rattle.zac_flow.specs.declared.inputs.Inputs.{Inputs}
-use Rattle.zac_flow.specs.declared.status.Fault.{Fault}
-use Rattle.zac_flow.specs.declared.status.Fault.TheVariants.{Usage, Read, Long, Card, Source, Limit, Qubits, Zair, NotTheCircuit, Write, Memory}
-use Rattle.zac_flow.specs.declared.status.InputFile.TheVariants as file
-use Rattle.zac_flow.specs.declared.status.Status.{Status}
-use Rattle.zac_flow.specs.declared.status.Status.TheVariants.{Done, NoMemory, ReadFault, WriteFault, TooLong}
+use Rattle.zac_fault.specs.declared.status.Fault.{Fault}
+use Rattle.zac_fault.specs.declared.status.Fault.TheVariants.{Usage, Read, Long, Card, Source, Limit, Qubits, Zair, NotTheCircuit, Write, Memory}
+use Rattle.zac_fault.specs.declared.status.InputFile.TheVariants as file
+use Rattle.zac_fault.specs.declared.status.Status.{Status}
+use Rattle.zac_fault.specs.declared.status.Status.TheVariants.{Done, NoMemory, ReadFault, WriteFault, TooLong}
 use Rattle.zac_flow.proofs.OneFault.{short_card}
 
 -- what is known of the faults of what a command is given

@@ -1,10 +1,5 @@
-pub mod Pairs
-pub mod Reading
-pub mod OneReading
-pub mod SomeReading
 pub mod OneFault
 pub mod SomeFault
-pub mod Telling
 pub mod Meaning
 pub mod Naming
 pub mod Making

@@ -5,16 +5,18 @@ use Rattle.zac_archfile.specs.Faults.{IsFault}
 use Rattle.zac_archfile.specs.declared.fault.CardFault.{CardFault}
 use Rattle.zac_archfile.specs.declared.fault.CardFault.TheVariants as card
 use Rattle.zac_io.specs.Outside.{NamedFiles, IsLonger, Holds}
-use Rattle.zac_flow.specs.Faults.{MeansByFiles, IsCardFile, card_fault_of}
-use Rattle.zac_flow.specs.Inputs.{Gives, GivesCard, AreShort, IsShortCard, IsRefusedCard, card_limit, source_limit, zair_limit}
+use Rattle.zac_fault.specs.Statuses.{card_fault_of}
+use Rattle.zac_flow.specs.Faults.{MeansByFiles, IsCardFile}
+use Rattle.qasm_source.specs.Source.{source_limit}
+use Rattle.zac_flow.specs.Inputs.{Gives, GivesCard, AreShort, IsShortCard, IsRefusedCard, card_limit, zair_limit}
 use Rattle.zac_flow.specs.Due.{two_files, three_files}
 use Rattle.zac_flow.specs.Words.{FileWords}
 use Rattle.zac_flow.specs.declared.inputs.Inputs.{Inputs}
 use Rattle.zac_flow.specs.declared.inputs.CardInput.{CardInput}
 use Rattle.zac_flow.specs.declared.inputs.CardInput.TheVariants.{Text}
-use Rattle.zac_flow.specs.declared.status.Fault.{Fault}
-use Rattle.zac_flow.specs.declared.status.Fault.TheVariants.{Read, Long, Card, Memory}
-use Rattle.zac_flow.specs.declared.status.InputFile.TheVariants as file
+use Rattle.zac_fault.specs.declared.status.Fault.{Fault}
+use Rattle.zac_fault.specs.declared.status.Fault.TheVariants.{Read, Long, Card, Memory}
+use Rattle.zac_fault.specs.declared.status.InputFile.TheVariants as file
 
 -- there are lists longer than any number
 long_list : (n : ℕ) → (l : List ℕ) × (n < length l)

@@ -16,16 +16,17 @@ use Rattle.zac_watch.specs.declared.fault.ReplayFault.TheVariants as replay
 use Rattle.zair_form.specs.declared.program.Instr.{Instr}
 use Rattle.zair_read.specs.Texts.{IsProgramText, IsFirstWrong}
 use Rattle.zac_flow.specs.Compiled.{AreReadAs, IsServed, ReplaysIn}
-use Rattle.zac_flow.specs.Faults.{IsFaultOf, status_of}
-use Rattle.zac_flow.specs.Inputs.{AreShort, IsShortCard, IsCardOf, IsRefusedCard, source_limit, zair_limit}
-use Rattle.zac_flow.specs.Source.{IsAccepted, IsRefusedAt}
+use Rattle.zac_fault.specs.Statuses.{status_of}
+use Rattle.zac_flow.specs.Faults.{IsFaultOf}
+use Rattle.qasm_source.specs.Source.{source_limit, IsAccepted, IsRefusedAt}
+use Rattle.zac_flow.specs.Inputs.{AreShort, IsShortCard, IsCardOf, IsRefusedCard, zair_limit}
 use Rattle.zac_flow.specs.declared.inputs.CardInput.{CardInput}
 use Rattle.zac_flow.specs.declared.inputs.CardInput.TheVariants.{Tiny, Standard, Text}
 use Rattle.zac_flow.specs.declared.inputs.Inputs.{Inputs}
-use Rattle.zac_flow.specs.declared.source_fault.Refusal.{Refusal}
-use Rattle.zac_flow.specs.declared.status.Fault.{Fault}
-use Rattle.zac_flow.specs.declared.status.Fault.TheVariants.{Usage, Read, Long, Card, Source, Limit, Qubits, Zair, NotTheCircuit, Write, Memory}
-use Rattle.zac_flow.specs.declared.status.InputFile.TheVariants as file
+use Rattle.qasm_source.specs.declared.source_fault.Refusal.{Refusal}
+use Rattle.zac_fault.specs.declared.status.Fault.{Fault}
+use Rattle.zac_fault.specs.declared.status.Fault.TheVariants.{Usage, Read, Long, Card, Source, Limit, Qubits, Zair, NotTheCircuit, Write, Memory}
+use Rattle.zac_fault.specs.declared.status.InputFile.TheVariants as file
 
 -- what is known of the texts of cards
 pub record CardsAreOne : Type 0 where

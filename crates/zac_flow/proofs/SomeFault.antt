@@ -8,19 +8,27 @@ use Rattle.zac_arch.specs.Tiny.{tiny_architecture}
 use Rattle.zac_archfile.specs.Faults.{IsFault}
 use Rattle.zac_archfile.specs.Texts.{IsCardText}
 use Rattle.zac_archfile.specs.declared.fault.CardFault.{CardFault}
-use Rattle.qasm_expand.specs.Expansion.{IsWithinLimits}
+use Rattle.zac_gates.specs.Ops.{NativeCircuit}
+use Rattle.qasm_expand.specs.Expansion.{IsExpansion, IsWithinLimits, PassesFirst}
 use Rattle.qasm_expand.specs.Items.{qubit_count}
+use Rattle.qasm_expand.specs.declared.fault.LimitKind.{LimitKind}
 use Rattle.qasm_names.specs.Accepted.{Program}
 use Rattle.zac_flow.specs.Compiled.{AreReadAs}
 use Rattle.zac_flow.specs.Faults.{IsFaultOf}
-use Rattle.zac_flow.specs.Inputs.{AreShort, IsShortCard, IsCardOf, IsRefusedCard, source_limit, zair_limit}
+use Rattle.qasm_source.specs.Source.{source_limit, IsAccepted, IsRefusedAt}
+use Rattle.qasm_source.specs.declared.source_fault.Refusal.{Refusal}
+use Rattle.zac_flow.specs.Inputs.{AreShort, IsShortCard, IsCardOf, IsRefusedCard, zair_limit}
 use Rattle.zac_flow.specs.declared.inputs.CardInput.{CardInput}
 use Rattle.zac_flow.specs.declared.inputs.CardInput.TheVariants.{Tiny, Standard, Text}
 use Rattle.zac_flow.specs.declared.inputs.Inputs.{Inputs}
-use Rattle.zac_flow.specs.declared.status.Fault.{Fault}
-use Rattle.zac_flow.specs.declared.status.Fault.TheVariants.{Long, Card, Source, Limit, Qubits}
-use Rattle.zac_flow.specs.declared.status.InputFile.TheVariants as file
-use Rattle.zac_flow.proofs.SomeReading.{IsAnswered}
+use Rattle.zac_fault.specs.declared.status.Fault.{Fault}
+use Rattle.zac_fault.specs.declared.status.Fault.TheVariants.{Long, Card, Source, Limit, Qubits}
+use Rattle.zac_fault.specs.declared.status.InputFile.TheVariants as file
+
+-- a source is accepted with a native list and within the limits, or passes one first, or is refused
+abbrev pub IsAnswered : List ℕ → Type 0
+IsAnswered source =
+    ((p : Program) × (c : NativeCircuit) × IsAccepted source p × IsWithinLimits p × IsExpansion p c) ⊎ ((p : Program) × (k : LimitKind) × (count : ℕ) × IsAccepted source p × PassesFirst p k count) ⊎ ((k : Refusal) × (at : ℕ) × IsRefusedAt source k at)
 
 -- the text is that of a card, or has a fault
 abbrev pub SomeCard : Type 0

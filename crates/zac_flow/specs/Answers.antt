@@ -6,17 +6,20 @@ use Rattle.zair_text.specs.Lines.{program_text}
 use Rattle.zair_text.specs.Ranges.{AreWritable}
 use Rattle.zac_flow.specs.Compiled.{MayCompileTo, IsServed}
 use Rattle.zac_flow.specs.Due.{IsDue, two_files}
-use Rattle.zac_flow.specs.Faults.{status_of, fault_line, IsFaultOf, IsCardFile, Means, Leaves, without_text}
-use Rattle.zac_flow.specs.Inputs.{GivesCard, Gives, IsLongCard, IsShortCard, source_limit}
+use Rattle.zac_fault.specs.Lines.{fault_line}
+use Rattle.zac_fault.specs.Statuses.{status_of}
+use Rattle.zac_flow.specs.Faults.{IsFaultOf, IsCardFile, Means, Leaves, without_text}
+use Rattle.qasm_source.specs.Source.{source_limit}
+use Rattle.zac_flow.specs.Inputs.{GivesCard, Gives, IsLongCard, IsShortCard}
 use Rattle.zac_flow.specs.Panel.{Reading, MayBeShownPart}
 use Rattle.zac_flow.specs.Words.{Command, Compile, Report, FileWords, file_words}
 use Rattle.zac_flow.specs.declared.inputs.CardInput.{CardInput}
 use Rattle.zac_flow.specs.declared.inputs.Inputs.{Inputs}
-use Rattle.zac_flow.specs.declared.status.Fault.{Fault}
-use Rattle.zac_flow.specs.declared.status.Fault.TheVariants.{Long}
-use Rattle.zac_flow.specs.declared.status.InputFile.TheVariants.{Source}
-use Rattle.zac_flow.specs.declared.status.Status.{Status}
-use Rattle.zac_flow.specs.declared.status.Status.TheVariants.{Done, WriteFault, NoMemory, TooLong}
+use Rattle.zac_fault.specs.declared.status.Fault.{Fault}
+use Rattle.zac_fault.specs.declared.status.Fault.TheVariants.{Long}
+use Rattle.zac_fault.specs.declared.status.InputFile.TheVariants.{Source}
+use Rattle.zac_fault.specs.declared.status.Status.{Status}
+use Rattle.zac_fault.specs.declared.status.Status.TheVariants.{Done, WriteFault, NoMemory, TooLong}
 
 -- Out has grown by the text of one program to which what the words may give compiles. The program is writable, and no other
 -- writable list of instructions has that text.

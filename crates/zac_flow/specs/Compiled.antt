@@ -14,7 +14,7 @@ use Rattle.zair_read.specs.Texts.{IsProgramText}
 use Rattle.zac_plan.specs.Plan.{IsPlanned}
 use Rattle.zac_sched.specs.Exchange.{OrdersAgree}
 use Rattle.zac_flow.specs.Inputs.{Gives, AreShort, IsCardOf}
-use Rattle.zac_flow.specs.Source.{IsAccepted}
+use Rattle.qasm_source.specs.Source.{IsAccepted}
 use Rattle.zac_flow.specs.Words.{FileWords}
 use Rattle.zac_flow.specs.declared.inputs.Inputs.{Inputs}
 

@@ -1,68 +1,28 @@
--- The table of faults: of each its status, its line, what it means by the words and the files alone, and what it leaves
--- in out.
-use Rattle.std.specs.Prelude.{◌≡◌, ◌≢◌, ℕ, ◌<◌, ◌≤◌, ◌⊎◌, List, [], ◌∷◌, ◌++◌, Option, None, Some, Result, Ok, Err, length, codes, decimal, IsSomeAnd}
+-- The table of faults: of each what it means by the words and the files alone, and what it leaves in out.
+use Rattle.std.specs.Prelude.{◌≡◌, ◌≢◌, ℕ, ◌<◌, ◌≤◌, ◌⊎◌, List, Option, None, Some, length, codes, IsSomeAnd}
 use Rattle.zac_arch.specs.Architecture.{Architecture, storage_count}
-use Rattle.zac_archfile.specs.declared.fault.CardFault.{CardFault}
-use Rattle.zac_archfile.specs.declared.fault.CardFault.TheVariants as card
 use Rattle.zac_gates.specs.Ops.{NativeCircuit}
 use Rattle.zac_io.specs.Outside.{NamedFiles, AppendsPrefix}
 use Rattle.zac_watch.specs.Replaying.{IsReplayFault}
 use Rattle.zac_watch.specs.declared.fault.ReplayFault.TheVariants as replay
 use Rattle.zair_read.specs.Texts.{IsProgramText, IsFirstWrong}
 use Rattle.zair_form.specs.declared.program.Instr.{Instr}
-use Rattle.zair_text.specs.Lines.{joined, program_lines}
+use Rattle.zair_text.specs.Lines.{program_lines}
 use Rattle.zair_text.specs.Writing.{AppendsLines}
 use Rattle.qasm_expand.specs.Expansion.{IsWithinLimits, PassesFirst}
 use Rattle.qasm_expand.specs.Items.{qubit_count}
 use Rattle.qasm_names.specs.Accepted.{Program}
 use Rattle.zac_flow.specs.Compiled.{AreReadAs, IsCircuitOf, MayCompileTo}
-use Rattle.zac_flow.specs.Inputs.{GivesCard, Gives, AreShort, IsShortCard, IsLongCard, IsCardOf, IsRefusedCard, source_limit, zair_limit}
-use Rattle.zac_flow.specs.Kinds.{name_of, limit_name, file_name, card_fault_text}
+use Rattle.qasm_source.specs.Source.{source_limit, IsRefusedAt}
+use Rattle.zac_flow.specs.Inputs.{GivesCard, Gives, AreShort, IsShortCard, IsLongCard, IsCardOf, IsRefusedCard, zair_limit}
 use Rattle.zac_flow.specs.Panel.{Reading}
-use Rattle.zac_flow.specs.Replayed.{replay_parts}
-use Rattle.zac_flow.specs.Source.{IsRefusedAt}
 use Rattle.zac_flow.specs.Due.{IsDue, two_files}
 use Rattle.zac_flow.specs.Words.{Command, Compile, FileWords, file_words}
 use Rattle.zac_flow.specs.declared.inputs.CardInput.{CardInput}
 use Rattle.zac_flow.specs.declared.inputs.Inputs.{Inputs}
-use Rattle.zac_flow.specs.declared.status.Fault.{Fault}
-use Rattle.zac_flow.specs.declared.status.Fault.TheVariants.{Usage, Read, Long, Card, Source, Limit, Qubits, Zair, NotTheCircuit, Write, Memory}
-use Rattle.zac_flow.specs.declared.status.InputFile.TheVariants as file
-use Rattle.zac_flow.specs.declared.status.Status.{Status}
-use Rattle.zac_flow.specs.declared.status.Status.TheVariants as status
-
--- The status of each fault.
-abbrev pub status_of : Fault → Status
-status_of Usage = status.Usage
-status_of (Read which) = status.ReadFault
-status_of (Long which) = status.TooLong
-status_of (Card f) = status.CardRefused
-status_of (Source k at) = status.SourceRefused
-status_of (Limit k n) = status.Limit
-status_of (Qubits n s) = status.TooManyQubits
-status_of (Zair line) = status.ZairRefused
-status_of (NotTheCircuit f) = status.NotTheCircuit
-status_of Write = status.WriteFault
-status_of Memory = status.NoMemory
-
--- The status of an answer: `Done`, or that of its fault.
-abbrev pub outcome : {T : Type 0} → Result T Fault → Status
-outcome (Ok x) = status.Done
-outcome (Err f) = status_of f
-
--- The line of each fault.
-abbrev pub fault_line : Fault → List ℕ
-fault_line Usage = codes "usage: compile CARD QASM | report CARD QASM | replay CARD QASM ZAIR | make N K | drill N K\n"
-fault_line (Read which) = joined (codes "read fault: " ∷ file_name which ∷ codes "\n" ∷ [])
-fault_line (Long which) = joined (codes "too long: " ∷ file_name which ∷ codes "\n" ∷ [])
-fault_line (Card f) = joined (codes "card refused: " ∷ card_fault_text f ∷ codes "\n" ∷ [])
-fault_line (Source k at) = joined (codes "source refused: " ∷ name_of k ∷ codes " at " ∷ decimal at ∷ codes "\n" ∷ [])
-fault_line (Limit k n) = joined (codes "limit: " ∷ limit_name k ∷ codes " " ∷ decimal n ∷ codes "\n" ∷ [])
-fault_line (Qubits n s) = joined (codes "too many qubits: " ∷ decimal n ∷ codes " for " ∷ decimal s ∷ codes " traps\n" ∷ [])
-fault_line (Zair line) = joined (codes "zair refused: line " ∷ decimal line ∷ codes "\n" ∷ [])
-fault_line (NotTheCircuit f) = joined (codes "not the circuit: " ∷ (replay_parts f ++ codes "\n" ∷ []))
-fault_line Write = codes "write fault\n"
-fault_line Memory = codes "out of memory\n"
+use Rattle.zac_fault.specs.declared.status.Fault.{Fault}
+use Rattle.zac_fault.specs.declared.status.Fault.TheVariants.{Usage, Read, Long, Card, Source, Limit, Qubits, Zair, NotTheCircuit, Write, Memory}
+use Rattle.zac_fault.specs.declared.status.InputFile.TheVariants as file
 
 -- What is given must be so for each fault. `Long` of the card is not among them, since no source is read then: `Long` of
 -- the source, a card within its limit and a source above its own; `Long` of the text, both within their limits and a text
@@ -90,11 +50,6 @@ IsFaultOf i other = ⊥
 -- The fault is one of what is given, or want of memory.
 abbrev pub IsFaultOrWant : Inputs → Fault → Type 0
 IsFaultOrWant i f = (f ≡ Memory) ⊎ IsFaultOf i f
-
--- The fault of a command whose card has this fault: `Card`, or want of memory.
-abbrev pub card_fault_of : CardFault → Fault
-card_fault_of card.Memory = Memory
-card_fault_of f = Card f
 
 -- The word names a file, and no built-in card.
 abbrev pub IsCardFile : List ℕ → Type 0

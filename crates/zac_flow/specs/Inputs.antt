@@ -7,6 +7,7 @@ use Rattle.zac_archfile.specs.Faults.{IsFault}
 use Rattle.zac_archfile.specs.Texts.{IsCardText}
 use Rattle.zac_archfile.specs.declared.fault.CardFault.{CardFault}
 use Rattle.zac_io.specs.Outside.{NamedFiles, Holds}
+use Rattle.qasm_source.specs.Source.{source_limit}
 use Rattle.zac_flow.specs.declared.inputs.CardInput.{CardInput}
 use Rattle.zac_flow.specs.declared.inputs.CardInput.TheVariants.{Tiny, Standard, Text}
 use Rattle.zac_flow.specs.declared.inputs.Inputs.{Inputs}
@@ -15,10 +16,6 @@ use Rattle.zac_flow.specs.Words.{FileWords}
 -- The most bytes of a card: 65,536.
 abbrev pub card_limit : ℕ
 card_limit = 65536
-
--- The most bytes of a source: 4,194,304.
-abbrev pub source_limit : ℕ
-source_limit = 4194304
 
 -- The most bytes of the text of a program: 268,435,456.
 abbrev pub zair_limit : ℕ

@@ -1,17 +1,11 @@
-pub mod Kinds
-pub mod Source
-pub mod Refusals
 pub mod Words
 pub mod Requests
 pub mod Inputs
 pub mod Compiled
 pub mod Generator
-pub mod Parts
 pub mod Panel
-pub mod Replayed
 pub mod Texts
 pub mod Due
 pub mod Faults
 pub mod Answers
 pub mod Written
-pub mod Codes

@@ -1,8 +1,8 @@
 -- Inside: what a text that was made, or the fault that kept it from being made, leaves in out.
 use Rattle.std.specs.Prelude.{◌≡◌, ℕ, List, Option, Result, Ok, Err}
 use Rattle.zac_io.specs.Outside.{Appends, AppendsPrefix}
-use Rattle.zac_flow.specs.declared.status.Fault.{Fault}
-use Rattle.zac_flow.specs.declared.status.Fault.TheVariants.{Write}
+use Rattle.zac_fault.specs.declared.status.Fault.{Fault}
+use Rattle.zac_fault.specs.declared.status.Fault.TheVariants.{Write}
 
 -- The text was written whole; or a prefix of it was, and the fault is `Write`.
 abbrev pub IsWhole : List ℕ → Result Unit Fault → Option (List ℕ) → Option (List ℕ) → Type 0

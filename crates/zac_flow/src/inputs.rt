@@ -4,13 +4,14 @@ ghost use Rattle.std.specs.Prelude.{◌≡◌, ◌≢◌, ◌<◌, ◌≤◌, �
 ghost use Rattle.zac_io.specs.Outside.{RoseWhere, is_missing, Holds, IsLonger};
 ghost use Rattle.zac_flow.specs.Answers.{RisesAt, StraysRise};
 ghost use Rattle.zac_flow.specs.Due.{two_files, three_files};
-ghost use Rattle.zac_flow.specs.Faults.{MeansByFiles, outcome, IsCardFile};
+ghost use Rattle.zac_fault.specs.Statuses.{outcome};
+ghost use Rattle.zac_flow.specs.Faults.{MeansByFiles, IsCardFile};
 ghost use Rattle.zac_flow.specs.Inputs.{Gives, GivesCard, AreShort, IsShortCard};
 ghost use Rattle.zac_flow.specs.Words.{FileWords};
-ghost use Rattle.zac_flow.specs.declared.status.Status.TheVariants as status;
+ghost use Rattle.zac_fault.specs.declared.status.Status.TheVariants as status;
 
-use crate::status::{Fault, InputFile};
 use std::alloc::Global;
+use zac_fault::{Fault, InputFile};
 use zac_gates::Bytes;
 use zac_io::{ReadFault, Shelf, read_all};
 

@@ -1,26 +1,19 @@
-//! What the words of a command name, and what "accepted", "refused" and "fault" mean of its card and its source, as laws.
+//! What the words of a command name, and what "fault" means of its card and its source, as laws.
 
 ghost use Rattle.std.specs.Prelude.{◌≡◌, ℕ, ◌≤◌, ◌⊎◌, List, Option, None, Some, length};
-ghost use Rattle.zac_gates.specs.Ops.{NativeCircuit};
 ghost use Rattle.zair_form.specs.declared.program.Instr.{Instr};
 ghost use Rattle.zair_text.specs.Lines.{program_text};
-ghost use Rattle.qasm_expand.specs.Expansion.{IsExpansion, IsWithinLimits, PassesFirst};
-ghost use Rattle.qasm_expand.specs.declared.fault.LimitKind.{LimitKind};
-ghost use Rattle.qasm_names.specs.Accepted.{Program};
 ghost use Rattle.zac_flow.specs.Compiled.{CompilesTo, IsServed};
-ghost use Rattle.zac_flow.specs.Faults.{IsFaultOf, status_of};
+ghost use Rattle.zac_fault.specs.Statuses.{status_of};
+ghost use Rattle.zac_flow.specs.Faults.{IsFaultOf};
 ghost use Rattle.zac_flow.specs.Inputs.{IsShortCard, with_text, zair_limit};
-ghost use Rattle.zac_flow.specs.Source.{IsAccepted, IsRefusedAt};
 ghost use Rattle.zac_flow.specs.Words.{Command, Name};
 ghost use Rattle.zac_flow.specs.declared.inputs.Inputs.{Inputs};
-ghost use Rattle.zac_flow.specs.declared.source_fault.Refusal.{Refusal};
-ghost use Rattle.zac_flow.specs.declared.status.Fault.{Fault};
+ghost use Rattle.zac_fault.specs.declared.status.Fault.{Fault};
 
 use qasm_expand::laws::one_limit;
-use qasm_expand::{each_program_expands, one_expansion};
-use qasm_lex::laws::tokens_or_one_fault;
-use qasm_parse::laws::{each_token_is_seen, statement_or_one_fault, tokens_fall_in_one_way};
-use qasm_scope::{one_header, one_judgement, tokens_go_to_the_end_or_stop};
+use qasm_expand::one_expansion;
+use qasm_source::laws::one_answer;
 use zac_archfile::card_or_one_fault;
 use zac_watch::laws::{performing_programs_replay, replays_have_no_fault};
 use zair_read::laws::{program_or_one_fault, written_reads_back};
@@ -31,31 +24,6 @@ pub fn words_name_one_command()
     ensures one { (words : List (List ℕ)) (command other : Option Command) → Name words command
         → Name words other → command ≡ other }
 {}
-
-/// A source has one answer: it is accepted as one program with a native list and within the limits, or it is accepted as one and
-/// passes a limit first, or it is refused with one kind at one offset.
-pub fn one_answer()
-    ensures some { (source : List ℕ)
-        → ((program : Program) × (circuit : NativeCircuit) × IsAccepted source program × IsWithinLimits program × IsExpansion program circuit)
-        ⊎ ((program : Program) × (kind : LimitKind) × (count : ℕ) × IsAccepted source program × PassesFirst program kind count)
-        ⊎ ((kind : Refusal) × (at : ℕ) × IsRefusedAt source kind at) }
-    ensures one_program { (source : List ℕ) (program other : Program) → IsAccepted source program
-        → IsAccepted source other → program ≡ other }
-    ensures one_refusal { (source : List ℕ) (k l : Refusal) (at other : ℕ) → IsRefusedAt source k at
-        → IsRefusedAt source l other → (k ≡ l) × (at ≡ other) }
-    ensures not_both { (source : List ℕ) (program : Program) (k : Refusal) (at : ℕ) → IsAccepted source program
-        → ¬ IsRefusedAt source k at }
-{
-    tokens_or_one_fault();
-    each_token_is_seen();
-    statement_or_one_fault();
-    tokens_fall_in_one_way();
-    one_header();
-    one_judgement();
-    tokens_go_to_the_end_or_stop();
-    each_program_expands();
-    one_limit();
-}
 
 /// A source and a card within its limit have one fault, of all that they can have without a text, or they are read, pass no
 /// limit and fit the storage, and never both.

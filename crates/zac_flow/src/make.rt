@@ -3,8 +3,8 @@
 ghost use Rattle.std.specs.Prelude.{◌≡◌, ◌+◌, ◌*◌, ◌^◌, ◌<◌, ◌≤◌, ◌++◌, IfOk, OnOk};
 ghost use Rattle.zac_flow.specs.Generator.{next_state, first_of, second_of, pair_lines, made_source};
 
-use crate::part::{Part, add_parts};
 use std::alloc::Global;
+use zac_fault::{Part, add_parts};
 use zac_gates::{Bytes, List, Memory};
 
 /// The state of the generator after a draw.

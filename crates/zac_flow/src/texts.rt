@@ -4,9 +4,9 @@ ghost use Rattle.std.specs.Prelude.{◌≡◌, ◌++◌, IfOk, OnOk, map};
 ghost use Rattle.zac_flow.specs.Panel.{Reading};
 ghost use Rattle.zac_flow.specs.Texts.{total_line, total_lines, watch_line, report_text, verdict_text, drill_text};
 
-use crate::part::{Part, add_parts};
 use crate::stages::Verdict;
 use std::alloc::Global;
+use zac_fault::{Part, add_parts};
 use zac_gates::Memory;
 use zac_watch::Watch;
 use zair_text::Totals;

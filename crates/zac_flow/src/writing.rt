@@ -2,11 +2,11 @@
 
 ghost use Rattle.std.specs.Prelude.{◌≡◌, ◌≢◌, IfErr};
 ghost use Rattle.zac_flow.specs.Answers.{RisesAt};
-ghost use Rattle.zac_flow.specs.Faults.{outcome};
+ghost use Rattle.zac_fault.specs.Statuses.{outcome};
 ghost use Rattle.zac_flow.specs.Written.{IsWhole, IsWritten};
-ghost use Rattle.zac_flow.specs.declared.status.Status.TheVariants as status;
+ghost use Rattle.zac_fault.specs.declared.status.Status.TheVariants as status;
 
-use crate::status::Fault;
+use zac_fault::Fault;
 use zac_io::Sink;
 
 /// Writes a text, by one `write`.

@@ -2,12 +2,13 @@ use Rattle.std.proofs.Common.{◌≡◌, ℕ, None, Some, refl, sym, ap, ◌∙�
 use Rattle.std.proofs.lemmas.Result.{err_from_is_err_and}
 use Rattle.zac_flow.specs.Answers.{RisesAt}
 use Rattle.zac_flow.specs.Due.{two_files}
-use Rattle.zac_flow.specs.Faults.{Means, status_of}
+use Rattle.zac_fault.specs.Statuses.{status_of}
+use Rattle.zac_flow.specs.Faults.{Means}
 use Rattle.zac_flow.specs.Panel.{readings}
 use Rattle.zac_flow.specs.Words.{Report}
-use Rattle.zac_flow.specs.declared.status.Fault.{Fault}
-use Rattle.zac_flow.specs.declared.status.Fault.TheVariants.{Memory}
-use Rattle.zac_flow.specs.declared.status.Status.TheVariants.{Done, ReadFault, NoMemory}
+use Rattle.zac_fault.specs.declared.status.Fault.{Fault}
+use Rattle.zac_fault.specs.declared.status.Fault.TheVariants.{Memory}
+use Rattle.zac_fault.specs.declared.status.Status.TheVariants.{Done, ReadFault, NoMemory}
 use Rattle.zac_flow.proofs.Showing.{part_of_compiled, all_of_compiled, report_due}
 use Rattle.zac_flow.proofs.commands.report_of.Goals as goal
 

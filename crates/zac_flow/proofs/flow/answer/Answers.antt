@@ -1,10 +1,11 @@
 use Rattle.std.proofs.Common.{◌≡◌, ◌∙◌, Some, refl, sym, subst, rules}
 use Rattle.zac_flow.specs.Answers.{MayShow, RisesAt}
-use Rattle.zac_flow.specs.Faults.{Means, status_of}
+use Rattle.zac_fault.specs.Statuses.{status_of}
+use Rattle.zac_flow.specs.Faults.{Means}
 use Rattle.zac_flow.specs.Requests.{named}
-use Rattle.zac_flow.specs.declared.status.Fault.TheVariants.{Usage}
-use Rattle.zac_flow.specs.declared.status.Status.{Status}
-use Rattle.zac_flow.specs.declared.status.Status.TheVariants.{ReadFault, WriteFault}
+use Rattle.zac_fault.specs.declared.status.Fault.TheVariants.{Usage}
+use Rattle.zac_fault.specs.declared.status.Status.{Status}
+use Rattle.zac_fault.specs.declared.status.Status.TheVariants.{ReadFault, WriteFault}
 use Rattle.zac_flow.proofs.Carrying.{no_strays}
 use Rattle.zac_flow.proofs.Ending.{FaultsAreOne, done_exact, refused_exact, none_exact}
 use Rattle.zac_flow.proofs.flow.answer.Goals as goal

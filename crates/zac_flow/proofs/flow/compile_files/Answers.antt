@@ -12,8 +12,8 @@ use Rattle.zac_flow.specs.Faults.{Leaves, MeansByFiles}
 use Rattle.zac_flow.specs.Words.{Compile, FileWords}
 use Rattle.zac_flow.specs.Due.{two_files}
 use Rattle.zac_flow.specs.Panel.{Reading}
-use Rattle.zac_flow.specs.declared.status.Fault.{Fault}
-use Rattle.zac_flow.specs.declared.status.Fault.TheVariants.{Write, Memory}
+use Rattle.zac_fault.specs.declared.status.Fault.{Fault}
+use Rattle.zac_fault.specs.declared.status.Fault.TheVariants.{Write, Memory}
 use Rattle.zac_flow.proofs.flow.compile_files.Goals as goal
 
 -- a program that was written, where its text was

@@ -1,7 +1,7 @@
 use Rattle.std.proofs.Common.{sym, subst, rules}
 use Rattle.std.proofs.lemmas.Result.{err_from_is_err_and}
 use Rattle.zac_flow.specs.Faults.{MeansByFiles, IsCardFile}
-use Rattle.zac_flow.specs.declared.status.Fault.{Fault}
+use Rattle.zac_fault.specs.declared.status.Fault.{Fault}
 use Rattle.zac_flow.proofs.Meaning.{of_card}
 use Rattle.zac_flow.proofs.inputs.card_from.Goals as goal
 

@@ -3,7 +3,7 @@ use Rattle.std.proofs.lemmas.Result.{err_from_is_err_and}
 use Rattle.zac_io.specs.Outside.{NamedFiles, RoseWhere, is_missing}
 use Rattle.zac_flow.specs.Due.{two_files}
 use Rattle.zac_flow.specs.Faults.{MeansByFiles, IsCardFile}
-use Rattle.zac_flow.specs.declared.status.Fault.{Fault}
+use Rattle.zac_fault.specs.declared.status.Fault.{Fault}
 use Rattle.zac_flow.proofs.Meaning.{of_source}
 use Rattle.zac_flow.proofs.Straying.{strays_of_card, none_of_card, strays_of_source}
 use Rattle.zac_flow.proofs.inputs.inputs_from.Goals as goal

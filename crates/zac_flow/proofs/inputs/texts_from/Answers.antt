@@ -3,7 +3,7 @@ use Rattle.std.proofs.lemmas.Result.{err_from_is_err_and}
 use Rattle.zac_io.specs.Outside.{NamedFiles, RoseWhere, is_missing}
 use Rattle.zac_flow.specs.Due.{three_files}
 use Rattle.zac_flow.specs.Faults.{MeansByFiles}
-use Rattle.zac_flow.specs.declared.status.Fault.{Fault}
+use Rattle.zac_fault.specs.declared.status.Fault.{Fault}
 use Rattle.zac_flow.proofs.Meaning.{of_text}
 use Rattle.zac_flow.proofs.Straying.{strays_of_two, strays_of_text}
 use Rattle.zac_flow.proofs.inputs.texts_from.Goals as goal

@@ -3,8 +3,8 @@ use Rattle.zac_archfile.specs.Faults.{IsFault}
 use Rattle.zac_archfile.specs.declared.fault.CardFault.TheVariants as card
 use Rattle.zac_archfile.specs.declared.fault.CardFault.{CardFault}
 use Rattle.zac_flow.specs.Inputs.{IsRefusedCard}
-use Rattle.zac_flow.specs.declared.status.Fault.{Fault}
-use Rattle.zac_flow.specs.declared.status.Fault.TheVariants.{Card, Memory}
+use Rattle.zac_fault.specs.declared.status.Fault.{Fault}
+use Rattle.zac_fault.specs.declared.status.Fault.TheVariants.{Card, Memory}
 use Rattle.zac_flow.proofs.Meaning.{of_card_text}
 use Rattle.zac_flow.proofs.stages.card_of.Goals as goal
 
