@@ -1,18 +1,33 @@
 #!/usr/bin/env python3
 """Draws programs with tools/draw and compares the data of each page with the text: every begin and end, and where each atom and
-each beam is, worked out from the text line by line and from the places of traps in tests/plan.py.
+each beam is, worked out from the text line by line and from the places of traps in tests/plan.py. Where Chromium is installed, the
+page of the last program is opened in it too, without a window, and played.
 
     draw.py CARD ZAIR..    a line for each program whose page differs, and the counts
 """
 import json
 import os
 import re
+import shutil
 import subprocess
 import sys
+import tempfile
 
 import plan
 
 DRAW = os.path.join(os.path.dirname(os.path.abspath(__file__)), "../tools/draw")
+BROWSER = shutil.which("chromium")
+PLAYED = """<script>
+  const errors = [];
+  window.addEventListener("error", event => errors.push(event.message));
+  by("speed").value = "4";
+  by("play").click();
+  setTimeout(() => {
+    const played = time;
+    ["on", "back", "fit", "used", "scale"].forEach(name => by(name).click());
+    document.title = JSON.stringify([played, data.end, errors]);
+  }, 1000);
+</script></body>"""
 
 
 def along(track, time):
@@ -110,7 +125,22 @@ def crossings_differ(data):
     return False
 
 
-def differs(name, path):
+def stands_still(page):
+    """What goes wrong when the page is played for a second in a browser, or nothing."""
+    with tempfile.TemporaryDirectory() as folder:
+        path = os.path.join(folder, "page.html")
+        with open(path, "w", encoding="utf-8") as file:
+            file.write(page.replace("</body>", PLAYED))
+        words = [BROWSER, "--headless", "--no-sandbox", "--disable-gpu", f"--user-data-dir={folder}/browser",
+                 "--virtual-time-budget=4000", "--dump-dom", f"file://{path}"]
+        told = subprocess.run(words, stdout=subprocess.PIPE, stderr=subprocess.DEVNULL, timeout=120, check=False).stdout.decode()
+    time, end, errors = json.loads(re.search("<title>(.*?)</title>", told, re.S).group(1).replace("&amp;", "&"))
+    if errors:
+        return f"the browser says {errors[0]}"
+    return "" if end == 0 or time is not None and 0 < time <= end else f"playing stands at {time} of {end}"
+
+
+def differs(name, path, opened):
     """What is wrong with the page of a program, or nothing."""
     with open(path, encoding="utf-8") as file:
         lines = [json.loads(line) for line in file]
@@ -122,17 +152,18 @@ def differs(name, path):
         return "it asks for another file"
     data = json.loads(re.search(r'<script type="application/json" id="data">(.*?)</script>', page, re.S).group(1))
     card = plan.card_of(plan.built_in(name) if name.startswith("@") else open(name, "rb").read())
-    return next(faults(data, Text(card, lines), lines), "an atom beside its beams" if crossings_differ(data) else "")
+    fault = next(faults(data, Text(card, lines), lines), "an atom beside its beams" if crossings_differ(data) else "")
+    return fault or (stands_still(page) if opened else "")
 
 
 def main():
     failed = 0
     for path in sys.argv[2:]:
-        fault = differs(sys.argv[1], path)
+        fault = differs(sys.argv[1], path, BROWSER is not None and path == sys.argv[-1])
         failed += bool(fault)
         if fault:
             print(f"FAILED: the page of {path}: {fault}")
-    print(f"{len(sys.argv) - 2 - failed} pages as their texts, {failed} not")
+    print(f"{len(sys.argv) - 2 - failed} pages as their texts, {failed} not" + ("" if BROWSER else "; opened in no browser: none here"))
     return 1 if failed else 0
 
 
