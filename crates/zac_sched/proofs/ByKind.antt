@@ -15,7 +15,7 @@ use Rattle.zair_form.specs.declared.step.ReadOf.{ReadOf}
 use Rattle.zair_form.specs.declared.step.Step.{Step}
 use Rattle.zair_state.specs.Resources.{Conflict, Uses}
 use Rattle.zair_state.specs.Resources.Resource.{Laser, Aod, Qubit, Trap}
-use Rattle.zac_sched.specs.Ends.{AreEnds, AreMarked, IsLatest, IsPulse, TakesTrap, TakesZoneTrap}
+use Rattle.zac_sched.specs.Ends.{AreEnds, AreMarked, IsLatest, IsPulseOrInit, TakesTrap, TakesZoneTrap}
 use Rattle.zac_sched.specs.declared.ends.Ends.{Ends}
 use Rattle.zac_sched.proofs.Changing.{Told, as_latest, changes_mark}
 use Rattle.zac_sched.proofs.Clashes.{AreGridTraps, MeetsZones, OfJob, OfPair, of_gates, of_job, of_pulse, of_readout, with_gates, with_job, with_pulse, with_pulses, with_readout}
@@ -85,10 +85,10 @@ pub zone_job_free : (a : Architecture) (old : Ends) (aod : ℕ) (shifts : List S
     → MeetsZones a grid → (earlier : List Instr) → AreEnds a earlier old
     → IsLatest (λ x. Conflict a x (Job aod steps)) earlier (max (job_from old aod shifts grid) old.pulse)
 zone_job_free a old aod shifts steps grid r g known inside within meets earlier h =
-    latest_alike (Either (OfJob a aod shifts grid) IsPulse) (λ x. Conflict a x (Job aod steps))
+    latest_alike (Either (OfJob a aod shifts grid) IsPulseOrInit) (λ x. Conflict a x (Job aod steps))
     (λ x u. elim u [ inl j ↦ with_job a aod shifts steps grid r g x j | inr p ↦ with_pulses a aod shifts steps grid r g meets x p ])
     (λ x c. elim (of_job a aod shifts steps grid r g x c) [ inl j ↦ inl j | inr p ↦ inr p.0 ]) earlier (max (job_from old aod shifts grid) old.pulse)
-    (latest_either (OfJob a aod shifts grid) IsPulse earlier (job_from old aod shifts grid) old.pulse (job_part a old aod shifts grid known inside within earlier h) h.pulse)
+    (latest_either (OfJob a aod shifts grid) IsPulseOrInit earlier (job_from old aod shifts grid) old.pulse (job_part a old aod shifts grid known inside within earlier h) h.pulse)
 
 -- nothing is noted
 unnoted : (One : Type 0) (end : ℕ) (old new : List ℕ) (q : ℕ) → ¬ One → new ≡ old → Noted One end old new q

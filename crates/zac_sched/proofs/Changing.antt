@@ -9,7 +9,7 @@ use Rattle.zair_form.specs.declared.program.Instr.{Instr}
 use Rattle.zair_state.specs.Resources.{Conflict, Uses}
 use Rattle.zair_state.specs.Resources.{Resource}
 use Rattle.zair_state.specs.Resources.Resource.{Laser, Aod, Qubit, Trap}
-use Rattle.zac_sched.specs.Ends.{AreMarked, IsLatest, IsPulse, TakesTrap, TakesZoneTrap}
+use Rattle.zac_sched.specs.Ends.{AreMarked, IsLatest, IsPulseOrInit, TakesTrap, TakesZoneTrap}
 use Rattle.zac_sched.specs.Schedule.{IsLastEnd}
 use Rattle.zac_sched.specs.declared.ends.Ends.{Ends}
 use Rattle.zac_sched.proofs.Latest.{any_last, any_before, any_weaker, latest_more, latest_kept}
@@ -35,7 +35,7 @@ pub record Changes (a : Architecture) (old : Ends) (act : Act) (end : ℕ) (new 
   pub traps_are : length new.traps.items ≡ length old.traps.items
   pub traps : (t : ℕ) → t < length old.traps.items → Noted (TakesTrap a t act) end old.traps.items new.traps.items t
   pub zones : Told (TakesZoneTrap a act) (max old.zones end) old.zones new.zones
-  pub pulse : Told (IsPulse act) end old.pulse new.pulse
+  pub pulse : Told (IsPulseOrInit act) end old.pulse new.pulse
 
 -- an instruction more: the new end where it is such a one, else the old one
 told_more : (P : Act → Type 0) (earlier : List Instr) (i : Instr) (old new : ℕ) → All (λ e. P e.act → P i.act → e.end ≤ i.end) earlier → Told (P i.act) i.end old new → IsLatest P earlier old → IsLatest P (earlier ++ i ∷ []) new
@@ -73,7 +73,7 @@ takes_uses a t (Rydberg pairs) h = absurd h
 takes_uses a t (Job aod steps) h = h
 takes_uses a t (Readout reads) h = absurd h
 
-pulse_uses : (a : Architecture) (x : Act) → IsPulse x → Uses a x Laser
+pulse_uses : (a : Architecture) (x : Act) → IsPulseOrInit x → Uses a x Laser
 pulse_uses a (Init homes) h = tt
 pulse_uses a (Gates ones) h = absurd h
 pulse_uses a (Rydberg pairs) h = tt
@@ -107,5 +107,5 @@ changes_mark a old act end new ch earlier begin h before =
           let inside : t < length old.traps.items = omega (arith, h.traps_are) in
           told_more (TakesTrap a t) earlier i (get_or old.traps.items t 0) (get_or new.traps.items t 0) (ends_first a (TakesTrap a t) (Trap t) (takes_uses a t) earlier i before) (ch.traps t inside) (h.traps t within);
       zones = zones_more (TakesZoneTrap a) earlier i old.zones new.zones ch.zones h.zones;
-      pulse = told_more IsPulse earlier i old.pulse new.pulse (ends_first a IsPulse Laser (pulse_uses a) earlier i before) ch.pulse h.pulse;
+      pulse = told_more IsPulseOrInit earlier i old.pulse new.pulse (ends_first a IsPulseOrInit Laser (pulse_uses a) earlier i before) ch.pulse h.pulse;
     }

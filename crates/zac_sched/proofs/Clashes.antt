@@ -15,7 +15,7 @@ use Rattle.zair_form.specs.declared.step.Step.{Step}
 use Rattle.zair_state.specs.Resources.{Conflict, Uses}
 use Rattle.zair_state.specs.Resources.{Resource}
 use Rattle.zair_state.specs.Resources.Resource.{Laser, Aod, Qubit, Trap}
-use Rattle.zac_sched.specs.Ends.{IsPulse, TakesTrap, TakesZoneTrap}
+use Rattle.zac_sched.specs.Ends.{IsPulseOrInit, TakesTrap, TakesZoneTrap}
 
 -- gates and a readout: whatever uses the laser or one of their qubits
 pub with_gates : (a : Architecture) (ones : List OneGate) (x : Act) → Uses a x Laser ⊎ Any (λ (g : OneGate). Uses a x (Qubit g.q)) ones → Conflict a x (Gates ones)
@@ -108,7 +108,7 @@ with_job a aod shifts steps grid r g x (inl (inl u)) = (Aod aod, u, r.own_aod)
 with_job a aod shifts steps grid r g x (inl (inr h)) = (Qubit h.1.q, h.4, r.own_qubits h.1.q (h.0, h.1, h.2, h.3, refl))
 with_job a aod shifts steps grid r g x (inr h) = with_trap a x (Job aod steps) h.1.0 h.4 (r.own_traps h.1.0 (g.on_grids h.1.0 (h.0, h.1, h.2, h.3, refl)))
 
-with_pulses_at : (a : Architecture) (x y : Act) (t : ℕ) → storage_count a ≤ t → t < trap_count a → Uses a y (Trap t) → IsPulse x → Conflict a x y
+with_pulses_at : (a : Architecture) (x y : Act) (t : ℕ) → storage_count a ≤ t → t < trap_count a → Uses a y (Trap t) → IsPulseOrInit x → Conflict a x y
 with_pulses_at a (Init homes) y t low high u h = (Trap t, tt, u)
 with_pulses_at a (Gates ones) y t low high u h = absurd h
 with_pulses_at a (Rydberg pairs) y t low high u h = (Trap t, (low, high), u)
@@ -120,13 +120,13 @@ abbrev pub MeetsZones : Architecture → List TrapId → Type 0
 MeetsZones a grid = Any (λ (k : TrapId). storage_count a ≤ k.0) grid
 
 pub with_pulses : (a : Architecture) (aod : ℕ) (shifts : List Shift) (steps : List Step) (grid : List TrapId) → HasResources a shifts aod steps → AreGridTraps a shifts grid
-    → MeetsZones a grid → (x : Act) → IsPulse x → Conflict a x (Job aod steps)
+    → MeetsZones a grid → (x : Act) → IsPulseOrInit x → Conflict a x (Job aod steps)
 with_pulses a aod shifts steps grid r g m x h =
     let listed : Any (λ (k : TrapId). k.0 ≡ m.1.0) grid = (m.0, m.1, m.2, m.3, refl) in
     with_pulses_at a x (Job aod steps) m.1.0 m.4 (g.within m.1.0 listed) (r.own_traps m.1.0 (g.on_grids m.1.0 listed)) h
 
 of_trap : (a : Architecture) (aod : ℕ) (shifts : List Shift) (grid : List TrapId) (x : Act) (t : ℕ) → Uses a x (Trap t) → Any (λ (k : TrapId). k.0 ≡ t) grid
-    → OfJob a aod shifts grid x ⊎ (IsPulse x × MeetsZones a grid)
+    → OfJob a aod shifts grid x ⊎ (IsPulseOrInit x × MeetsZones a grid)
 of_trap a aod shifts grid (Init homes) t u h = inl (inl (inl tt))
 of_trap a aod shifts grid (Gates ones) t u h = absurd u
 of_trap a aod shifts grid (Rydberg pairs) t u h = inr (tt, (h.0, h.1, h.2, h.3, subst (λ (n : ℕ). storage_count a ≤ n) (sym h.4) u.0))
@@ -134,7 +134,7 @@ of_trap a aod shifts grid (Job other steps) t u h = inl (inr (h.0, h.1, h.2, h.3
 of_trap a aod shifts grid (Readout reads) t u h = absurd u
 
 job_by : (a : Architecture) (aod : ℕ) (shifts : List Shift) (steps : List Step) (grid : List TrapId) → HasResources a shifts aod steps → AreGridTraps a shifts grid
-    → (x : Act) (r : Resource) → Uses a x r → Uses a (Job aod steps) r → OfJob a aod shifts grid x ⊎ (IsPulse x × MeetsZones a grid)
+    → (x : Act) (r : Resource) → Uses a x r → Uses a (Job aod steps) r → OfJob a aod shifts grid x ⊎ (IsPulseOrInit x × MeetsZones a grid)
 job_by a aod shifts steps grid r g x Laser u v = absurd v
 job_by a aod shifts steps grid r g x (Aod n) u v = inl (inl (inl (subst (λ (m : ℕ). Uses a x (Aod m)) (sym v) u)))
 job_by a aod shifts steps grid r g x (Qubit q) u v =
@@ -143,5 +143,5 @@ job_by a aod shifts steps grid r g x (Qubit q) u v =
 job_by a aod shifts steps grid r g x (Trap t) u v = of_trap a aod shifts grid x t u (g.listed t (r.traps_are t v))
 
 pub of_job : (a : Architecture) (aod : ℕ) (shifts : List Shift) (steps : List Step) (grid : List TrapId) → HasResources a shifts aod steps → AreGridTraps a shifts grid
-    → (x : Act) → Conflict a x (Job aod steps) → OfJob a aod shifts grid x ⊎ (IsPulse x × MeetsZones a grid)
+    → (x : Act) → Conflict a x (Job aod steps) → OfJob a aod shifts grid x ⊎ (IsPulseOrInit x × MeetsZones a grid)
 of_job a aod shifts steps grid r g x c = job_by a aod shifts steps grid r g x c.0 c.1 c.2

@@ -14,7 +14,7 @@ use Rattle.zair_form.specs.declared.step.Step.{Step}
 use Rattle.zair_form.specs.declared.step.Step.TheVariants.{One}
 use Rattle.zair_state.specs.Resources.{Conflict, Uses}
 use Rattle.zair_state.specs.Resources.Resource.{Laser, Aod, Qubit}
-use Rattle.zac_sched.specs.Ends.{AreEnds, AreMarked, GoesOn, HasRoom, IsFirstLeast, IsFreeFrom, IsLatest, IsPulse, TakesTrap, TakesZoneTrap}
+use Rattle.zac_sched.specs.Ends.{AreEnds, AreMarked, GoesOn, HasRoom, IsFirstLeast, IsFreeFrom, IsLatest, IsPulseOrInit, TakesTrap, TakesZoneTrap}
 use Rattle.zac_sched.specs.Schedule.{IsFreeFirst, start}
 use Rattle.zac_sched.specs.Todos.{act_on}
 use Rattle.zac_sched.specs.declared.ends.Ends.{Ends}
@@ -135,7 +135,7 @@ ends_at_start a ends qubits laser zones pulse aods of_qubits traps homes =
       traps_are = ap length traps ∙ length_of_replicate (trap_count a) 0;
       traps = λ t within. latest_at (TakesTrap a t) homes ends.traps.items (trap_count a) t traps;
       zones = subst (λ (m : ℕ). IsLatest (TakesZoneTrap a) earlier m) (sym zones) (zero_latest (TakesZoneTrap a) (start homes) refl);
-      pulse = subst (λ (m : ℕ). IsLatest IsPulse earlier m) (sym pulse) (zero_latest IsPulse (start homes) refl);
+      pulse = subst (λ (m : ℕ). IsLatest IsPulseOrInit earlier m) (sym pulse) (zero_latest IsPulseOrInit (start homes) refl);
     }
 
 -- there is room for one more

@@ -25,3 +25,4 @@ pub mod ByKind
 pub mod Going
 pub mod StepCounts
 pub mod Programs
+pub mod JobGrids

@@ -34,12 +34,12 @@ TakesZoneTrap a (Job aod steps) =
 TakesZoneTrap a (Readout reads) = ⊥
 
 -- it is a pulse, or `Init`
-abbrev pub IsPulse : Act → Type 0
-IsPulse (Init homes) = Unit {0}
-IsPulse (Gates ones) = ⊥
-IsPulse (Rydberg pairs) = Unit {0}
-IsPulse (Job aod steps) = ⊥
-IsPulse (Readout reads) = ⊥
+abbrev pub IsPulseOrInit : Act → Type 0
+IsPulseOrInit (Init homes) = Unit {0}
+IsPulseOrInit (Gates ones) = ⊥
+IsPulseOrInit (Rydberg pairs) = Unit {0}
+IsPulseOrInit (Job aod steps) = ⊥
+IsPulseOrInit (Readout reads) = ⊥
 
 -- these are the last ends over the earlier instructions
 pub record AreEnds (a : Architecture) (earlier : List Instr) (ends : Ends) : Type 0 where
@@ -50,7 +50,7 @@ pub record AreEnds (a : Architecture) (earlier : List Instr) (ends : Ends) : Typ
   pub traps_are : length ends.traps.items ≡ trap_count a
   pub traps : (t : ℕ) → t < trap_count a → IsLatest (TakesTrap a t) earlier (slice_index ends.traps.items t)
   pub zones : IsLatest (TakesZoneTrap a) earlier ends.zones
-  pub pulse : IsLatest IsPulse earlier ends.pulse
+  pub pulse : IsLatest IsPulseOrInit earlier ends.pulse
 
 -- from this moment on all is free that the act uses, and before it something is not
 abbrev pub IsFreeFrom : Architecture → List Instr → Act → ℕ → Type 0

@@ -5,7 +5,8 @@ use Rattle.std.proofs.lemmas.List.{append-nil, get_or-map, length-append, length
 use Rattle.std.proofs.lemmas.Option.{same_Some, slice_get-get_or, slice_get_within}
 use Rattle.zac_gates.specs.declared.circuit.Op.{Op}
 use Rattle.zac_gates.specs.declared.checklist.CheckFault.{CheckFault}
-use Rattle.zac_gates.specs.Checklist.{CanPerform, IsPerformable, IsRefused}
+use Rattle.zac_gates.specs.Checklist.{Checking, CanPerform, IsPerformable, IsRefused}
+use Rattle.zac_gates.specs.Ops.{NativeCircuit}
 use Rattle.zac_gates.specs.Log.{Entry}
 use Rattle.zac_watch.specs.Judging.{ArePerformed, AreRefused}
 
@@ -53,12 +54,34 @@ one_refused ops log wanted mid k e fault so_far here refused = record {
 }
 
 -- the entry at a place of a mapped list
-pub entry_here : {X : Type 0} (f : X → Entry) (xs : List X) (k : ℕ) (d : X) → k < length xs → slice_get (map f xs) k ≡ Some (f (get_or xs k d))
+entry_here : {X : Type 0} (f : X → Entry) (xs : List X) (k : ℕ) (d : X) → k < length xs → slice_get (map f xs) k ≡ Some (f (get_or xs k d))
 entry_here f xs k d within =
     slice_get-get_or (map f xs) k (f d) (subst (λ (n : ℕ). k < n) (sym (length-map xs f)) within)
     ∙ ap (λ (e : Entry). Some e) (get_or-map f xs k d (f d) within)
 
-pub one_more_entry : {X : Type 0} (f : X → Entry) (xs : List X) (k : ℕ) (d : X) → k < length xs → take (k + 1) (map f xs) ≡ take k (map f xs) ++ f (get_or xs k d) ∷ []
+one_more_entry : {X : Type 0} (f : X → Entry) (xs : List X) (k : ℕ) (d : X) → k < length xs → take (k + 1) (map f xs) ≡ take k (map f xs) ++ f (get_or xs k d) ∷ []
 one_more_entry f xs k d within =
     take_more (map f xs) k (f d) (subst (λ (n : ℕ). k < n) (sym (length-map xs f)) within)
     ∙ ap (λ (e : Entry). take k (map f xs) ++ e ∷ []) (get_or-map f xs k d (f d) within)
+
+-- A list whose items each have an entry, of which those before a place were performed behind the log of a circuit.
+module _ {X : Type 0} (entry_of : X → Entry) (xs : List X) (none : X) (k : ℕ) (within : k < length xs) (circuit : NativeCircuit) (log : List Entry) (mid : Checking)
+    (same : mid.circuit ≡ circuit) (so_far : ArePerformed circuit.ops log (take k (map entry_of xs)) mid.log) where
+  same_ops : mid.circuit.ops ≡ circuit.ops
+  same_ops = ap (λ (n : NativeCircuit). n.ops) same
+
+  -- the next is performed
+  pub next_performed : (new : Checking) → CanPerform mid.circuit.ops mid.log (entry_of (get_or xs k none)).op (entry_of (get_or xs k none)).what → new.log ≡ mid.log ++ entry_of (get_or xs k none) ∷ []
+      → ArePerformed circuit.ops log (take (k + 1) (map entry_of xs)) new.log
+  next_performed new can new_is =
+      let e = entry_of (get_or xs k none) in
+      subst (λ (l : List Entry). ArePerformed circuit.ops log l new.log) (sym (one_more_entry entry_of xs k none within))
+      (one_more_performed circuit.ops log (take k (map entry_of xs)) mid.log new.log e so_far (subst (λ (os : List Op). CanPerform os mid.log e.op e.what) same_ops can) new_is)
+
+  -- the next is refused
+  pub next_refused : (fault : CheckFault) → IsRefused mid.circuit.ops mid.log (entry_of (get_or xs k none)).op (entry_of (get_or xs k none)).what fault
+      → AreRefused circuit.ops log (map entry_of xs) fault
+  next_refused fault refused =
+      let e = entry_of (get_or xs k none) in
+      one_refused circuit.ops log (map entry_of xs) mid.log k e fault so_far (entry_here entry_of xs k none within)
+      (subst (λ (os : List Op). IsRefused os mid.log e.op e.what fault) same_ops refused)
