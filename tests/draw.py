@@ -1,10 +1,11 @@
 #!/usr/bin/env python3
 """Draws programs with tools/draw and compares the data of each page with the text: every begin and end, and where each atom and
 each beam is, worked out from the text line by line and from the places of traps in tests/plan.py. Where Chromium is installed, the
-page of the last program is opened in it too, without a window, and played.
+page of the last program is opened in it too, without a window, and played; that is told where it can't be.
 
     draw.py CARD ZAIR..    a line for each program whose page differs, and the counts
 """
+import html
 import json
 import os
 import re
@@ -22,6 +23,7 @@ PLAYED = """<script>
   window.addEventListener("error", event => errors.push(event.message));
   by("speed").value = "4";
   by("play").click();
+  tick(last - 5);  // a frame that began before the click
   setTimeout(() => {
     const played = time;
     ["on", "back", "fit", "used", "scale"].forEach(name => by(name).click());
@@ -125,46 +127,67 @@ def crossings_differ(data):
     return False
 
 
-def stands_still(page):
-    """What goes wrong when the page is played for a second in a browser, or nothing."""
+def shown(page):
+    """What a page holds once it was played for a second in the browser, or nothing where the browser itself doesn't run."""
     with tempfile.TemporaryDirectory() as folder:
         path = os.path.join(folder, "page.html")
         with open(path, "w", encoding="utf-8") as file:
             file.write(page.replace("</body>", PLAYED))
         words = [BROWSER, "--headless", "--no-sandbox", "--disable-gpu", f"--user-data-dir={folder}/browser",
                  "--virtual-time-budget=4000", "--dump-dom", f"file://{path}"]
-        told = subprocess.run(words, stdout=subprocess.PIPE, stderr=subprocess.DEVNULL, timeout=120, check=False).stdout.decode()
-    time, end, errors = json.loads(re.search("<title>(.*?)</title>", told, re.S).group(1).replace("&amp;", "&"))
+        try:
+            ran = subprocess.run(words, stdout=subprocess.PIPE, stderr=subprocess.DEVNULL, timeout=120, check=False)
+        except (OSError, subprocess.TimeoutExpired):
+            return ""
+        return "" if ran.returncode else ran.stdout.decode()
+
+
+def stands_still(held):
+    """What went wrong when a page was played, or nothing, by what it holds then."""
+    title = re.search(r"<title>(\[.*?\])</title>", held, re.S)
+    if not title:
+        return "its code stops"
+    time, end, errors = json.loads(html.unescape(title.group(1)))
     if errors:
         return f"the browser says {errors[0]}"
     return "" if end == 0 or time is not None and 0 < time <= end else f"playing stands at {time} of {end}"
 
 
-def differs(name, path, opened):
+def page_of(name, path):
+    """The page of a program, or nothing where it can't be drawn."""
+    drawn = subprocess.run([sys.executable, DRAW, name, path], stdout=subprocess.PIPE, check=False)
+    return "" if drawn.returncode else drawn.stdout.decode()
+
+
+def differs(name, path):
     """What is wrong with the page of a program, or nothing."""
     with open(path, encoding="utf-8") as file:
         lines = [json.loads(line) for line in file]
-    drawn = subprocess.run([sys.executable, DRAW, name, path], stdout=subprocess.PIPE, check=False)
-    if drawn.returncode:
+    page = page_of(name, path)
+    if not page:
         return "there is none"
-    page = drawn.stdout.decode()
     if re.search(r'(?:src|href)\s*=|url\(|@import|https?:', page):
         return "it asks for another file"
     data = json.loads(re.search(r'<script type="application/json" id="data">(.*?)</script>', page, re.S).group(1))
     card = plan.card_of(plan.built_in(name) if name.startswith("@") else open(name, "rb").read())
-    fault = next(faults(data, Text(card, lines), lines), "an atom beside its beams" if crossings_differ(data) else "")
-    return fault or (stands_still(page) if opened else "")
+    return next(faults(data, Text(card, lines), lines), "an atom beside its beams" if crossings_differ(data) else "")
 
 
 def main():
     failed = 0
     for path in sys.argv[2:]:
-        fault = differs(sys.argv[1], path, BROWSER is not None and path == sys.argv[-1])
+        fault = differs(sys.argv[1], path)
         failed += bool(fault)
         if fault:
             print(f"FAILED: the page of {path}: {fault}")
-    print(f"{len(sys.argv) - 2 - failed} pages as their texts, {failed} not" + ("" if BROWSER else "; opened in no browser: none here"))
-    return 1 if failed else 0
+    print(f"{len(sys.argv) - 2 - failed} pages as their texts, {failed} not")
+    held = shown(page_of(sys.argv[1], sys.argv[-1])) if BROWSER else ""
+    fault = held and stands_still(held)
+    if fault:
+        print(f"FAILED: the page of {sys.argv[-1]} when it is played: {fault}")
+    elif not held:
+        print("played in no browser: there is no Chromium here, or it doesn't run")
+    return 1 if failed or fault else 0
 
 
 if __name__ == "__main__":
